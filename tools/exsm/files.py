@@ -72,7 +72,11 @@ class Names:
 
     def __init__(self, store: Store) -> None:
         self.store = store
-        with store.snapshot():
+        self.read()
+
+    def read(self) -> None:
+        """Reads the names, as they are committed."""
+        with self.store.snapshot():
             self._read()
 
     def _read(self) -> None:

@@ -25,6 +25,9 @@ PUT_PIECES = UPDATES_MOST - PUT_UPDATES
 PUT_MOST = PUT_PIECES * PIECE
 """Bytes of a file that one transaction holds."""
 
+GROUP_MOST = 8 * PIECE
+"""Bytes of small files that are put in one transaction."""
+
 MODE_KEPT = 0o777
 """The bits of a mode that are kept: who may read, write and run a file."""
 
@@ -52,6 +55,14 @@ class Put(NamedTuple):
         if self.path == STANDARD_INPUT:
             return nullcontext(sys.stdin.buffer)
         return open(self.path, "rb")
+
+
+class Done(NamedTuple):
+    """A file that is in: its name, its object's identifier, its size."""
+
+    name: bytes
+    oid: str
+    size: int
 
 
 def put_of(path: str, name: str) -> Put:
@@ -142,13 +153,39 @@ def put(names: Names, paths: list[str], name: Optional[str], recursive: bool,
     if not replace:
         refuse_traps(names, puts)
     names.prepare()
+    done = 0
     with Progress("exsm_files: put", sum(it.size or 0 for it in puts)) as progress:
-        for done, it in enumerate(puts):
-            try:
-                oid, size = put_one(names, it, replace, progress)
-            except Refused as no:
-                raise Wrong(full_text(names, puts, no, done)) from None
-            print(f"{os.fsdecode(it.name)} {size} bytes, {oid}", flush=True)
+        for group in groups(puts):
+            if len(group) > 1 and put_together(names, group, replace, progress):
+                done += len(group)
+                continue
+            for it in group:
+                try:
+                    tell([Done(it.name, *put_one(names, it, replace, progress))])
+                except Refused as no:
+                    raise Wrong(full_text(names, puts, no, done)) from None
+                done += 1
+
+
+def tell(done: Iterable[Done]) -> None:
+    """Tells of files that are in, at once."""
+    lines = (f"{os.fsdecode(it.name)} {it.size} bytes, {it.oid}\n" for it in done)
+    print("".join(lines), end="", flush=True)
+
+
+def groups(puts: list[Put]) -> Iterator[list[Put]]:
+    """The files as they are put: small ones that follow each other together, others alone."""
+    group: list[Put] = []
+    size = updates = 0
+    for it in puts:
+        more = GROUP_MOST + 1 if it.size is None else it.size
+        size, updates = size + more, updates + PUT_UPDATES + -(-more // PIECE)
+        if group and (size > GROUP_MOST or updates > UPDATES_MOST):
+            yield group
+            group, size, updates = [], more, PUT_UPDATES + -(-more // PIECE)
+        group.append(it)
+    if group:
+        yield group
 
 
 def full_text(names: Names, puts: list[Put], no: Refused, done: int) -> str:
@@ -212,6 +249,26 @@ def put_one(names: Names, it: Put, replace: bool, progress: Progress) -> tuple[s
         return oid, read.size
 
 
+def put_together(names: Names, group: list[Put], replace: bool, progress: Progress) -> bool:
+    """Stores small files in one transaction and tells them; where one can't be read or is refused
+    none is in, the names are as they were, and each is to be put by itself."""
+    before = progress.done
+    told: list[Done] = []
+    try:
+        with names.transaction():
+            for it in group:
+                with it.opened() as source:
+                    read = Reading(source, progress)
+                    oid = put_within(names, it, replace, read.pieces(), read)
+                told.append(Done(it.name, oid, read.size))
+    except (Refused, Wrong, OSError):
+        progress.reach(before)
+        names.read()
+        return False
+    tell(told)
+    return True
+
+
 def append(names: Names, oid: str, pieces: Iterable[bytes]) -> None:
     """Puts pieces at the end of an object."""
     for piece in pieces:
@@ -220,19 +277,25 @@ def append(names: Names, oid: str, pieces: Iterable[bytes]) -> None:
 
 def put_at_once(names: Names, it: Put, replace: bool, pieces: Iterable[bytes],
                 read: Reading) -> str:
-    """Stores a file in one transaction. An object with versions keeps them, and its current one
-    changes."""
+    """Stores a file in one transaction."""
     with names.transaction():
-        if not replace:
-            refuse_other(names, it)                # another user may have put it meanwhile
-        if it.name in names and len(names.versions(it.name)) > 1:
-            oid = names.oid(it.name)
-            names.store.delete(oid, 0, names.store.size(oid))
-        else:
-            oid = names.create()
-        append(names, oid, pieces)
-        names.put_from(oid, it.source)
-        names.name(it.name, oid, read.facts())
+        return put_within(names, it, replace, pieces, read)
+
+
+def put_within(names: Names, it: Put, replace: bool, pieces: Iterable[bytes],
+               read: Reading) -> str:
+    """Stores a file within a transaction. An object with versions keeps them, and its current one
+    changes."""
+    if not replace:
+        refuse_other(names, it)                    # another user may have put it meanwhile
+    if it.name in names and len(names.versions(it.name)) > 1:
+        oid = names.oid(it.name)
+        names.store.delete(oid, 0, names.store.size(oid))
+    else:
+        oid = names.create()
+    append(names, oid, pieces)
+    names.put_from(oid, it.source)
+    names.name(it.name, oid, read.facts())
     return oid
 
 

@@ -16,9 +16,10 @@ from contextlib import redirect_stderr
 from io import StringIO
 from pathlib import Path
 
-from exsm.client import PIECE, Store
+from exsm.client import PIECE, UPDATES_MOST, Store
 from exsm.files import INTERRUPTED, Names, run
 from exsm.new import MIB
+from exsm.putting import PUT_UPDATES
 from exsm.volume import Volume
 from tests.kills import KILLS, killed, killed_command
 from tests.support import TOOLS, InFolder
@@ -299,9 +300,9 @@ class FilesTest(InFolder):
         self.assertIn(b"interrupted; what was told is done", seen)
         self.assertNotIn(b"Traceback", seen)
         told = {name.decode() for name in re.findall(rb"(f\d+) 20000 bytes", seen)}
-        stored = set(self.stored())                # one may be in that wasn't told yet
+        stored = set(self.stored())                # those of a transaction may be in untold
         self.assertLessEqual(told, stored)
-        self.assertLessEqual(len(stored), len(told) + 1)
+        self.assertLessEqual(len(stored), len(told) + UPDATES_MOST // PUT_UPDATES)
         self.assertLess(len(stored), INTERRUPTED_FILES)
 
     def test_interrupted_close(self) -> None:
@@ -359,6 +360,59 @@ class FilesTest(InFolder):
         Path("f1").write_bytes(b"x" * 20_000_000)
         self.assertTrue(self.put("f1", status=1)[0].endswith("so `rm` may also do"))
         self.assertEqual(self.stored()["f1"], bytes(8_000_000))
+
+    def small(self, count: int, size: int, seed: int) -> dict[str, bytes]:
+        """Makes small files, and gives their bytes."""
+        chance = random.Random(seed)
+        made = {f"s{place}": chance.randbytes(size) for place in range(count)}
+        for name, data in made.items():
+            Path(name).write_bytes(data)
+        return made
+
+    def commits(self) -> int:
+        """The number of the last transaction."""
+        with Store("v") as store, store.transaction():
+            return store.begun - 1
+
+    def test_together(self) -> None:
+        """small files that follow each other are put in few transactions, in order, also anew"""
+        made = self.small(100, 300, 5)
+        self.put(*made)
+        before = self.commits()
+        for name in ("s1", "s50", "s98"):
+            made[name] = b"anew"
+            Path(name).write_bytes(made[name])
+        Path("large").write_bytes(bytes(9 * PIECE))
+        lines = self.put(*made, "large", "s1", "--replace")
+        self.assertEqual([it.split()[0] for it in lines], [*made, "large", "s1"])
+        self.assertEqual(self.stored(), {**made, "large": bytes(9 * PIECE)})
+        self.assertLessEqual(self.commits() - before, 6)
+
+    def test_together_refused(self) -> None:
+        """of small files in a row each before the one that is refused is in, and none behind it"""
+        made = self.small(30, 1000, 6)
+        made["s20"] = bytes(3_900_000)
+        Path("s20").write_bytes(made["s20"])
+        Path("fills").write_bytes(bytes(22_000_000))
+        errors = self.put("fills", *made, status=1)
+        self.assertRegex(errors[0], r"exsm_files: s20: the volume is full: it needs \d+ units and "
+                                    r"\d+ are free\. 21 of 31 files are in\.")
+        self.assertEqual(self.stored(), {"fills": bytes(22_000_000),
+                                         **{f"s{it}": made[f"s{it}"] for it in range(20)}})
+
+    def test_together_killed(self) -> None:
+        """after a kill in a put of small files a front of them is in, each whole"""
+        made = self.small(400, 700, 7)
+        chance = random.Random(8)
+        words = [sys.executable, str(TOOLS / "exsm_files.py"), "v", "put", *made]
+        begun = time.monotonic()
+        self.assertEqual(self.run_words(*words).status, 0)
+        taken = time.monotonic() - begun
+        for _ in range(KILLS):
+            self.tool("exsm_files", "v", "rm", *self.stored())
+            killed_command(chance, taken, words)
+            stored = self.stored()
+            self.assertEqual(stored, {name: made[name] for name in list(made)[:len(stored)]})
 
     def in_parts(self, *words: str) -> list[str]:
         """A command whose transactions hold few pieces, so that a short file takes several."""
