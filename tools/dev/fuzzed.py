@@ -91,7 +91,7 @@ def beside(told: str, program: str, part: str) -> str:
               if it.startswith("On ") and f"(SHA-256 {program[:DIGITS]}..)" not in it]
     counts: Counter[str] = Counter()
     for tried in re.findall(r"(?m)^\| `\w+` \| ([^|]*) \|", "\n".join([told, *others])):
-        for count, what in re.findall(r"([\d,]+) ([^,]+)", tried):
+        for count, what in re.findall(r"(\d[\d,]*) ([^,]+)", tried):
             counts[what] += int(count.replace(",", ""))
     together = ", ".join(f"{count:,} {what}" for what, count in sorted(counts.items()))
     return "\n\n".join([told, *others, *([f"Together: {together}."] if others else [])])
