@@ -126,7 +126,7 @@ class PagesTest(InFolder):
         self.assert_beside(lines)
 
     def assert_beside(self, lines: list[str]) -> None:
-        """With --beside another program's table stands before the others, once, and all are summed."""
+        """With --beside another program's table stands before the others, and all are summed."""
         for _ in range(2):
             ran = self.script("fuzzed.py", "--about", "that", "--beside", "--write", "d")
             self.assertEqual(ran.status, 0)
