@@ -25,7 +25,7 @@ from tests.kills import KILLS, killed, killed_command
 from tests.support import TOOLS, InFolder
 
 FILES = 20
-INTERRUPTED_FILES = 600
+INTERRUPTED_FILES = 2000
 SIZES = (0, 1, 2, 100, 511, 512, 513, 5_000, 49_151, 317_000, 2_000_003)
 
 
@@ -293,10 +293,12 @@ class FilesTest(InFolder):
 
     def test_interrupt(self) -> None:
         """Ctrl-C in a terminal: what was told is in, and the rest isn't"""
+        os.remove("v")
+        self.format(page_size=4096, pages=2000, segs=20000, fan=169)
         for place in range(INTERRUPTED_FILES):
             Path(f"f{place}").write_bytes(bytes(20_000))
         status, seen = self.interrupted_put()
-        self.assertEqual(status, 130)
+        self.assertEqual(status, 130, seen[-2000:])
         self.assertIn(b"interrupted; what was told is done", seen)
         self.assertNotIn(b"Traceback", seen)
         told = {name.decode() for name in re.findall(rb"(f\d+) 20000 bytes", seen)}
