@@ -1,4 +1,4 @@
-//! A volume in memory behind both ports, for tests of the layers that stand on a port.
+//! A volume in memory behind both ports, for measurements of the layers that stand on a port.
 #![tactic(auto)]
 
 mod bytes;

@@ -1,5 +1,0 @@
-use Rattle.test_files.proofs.index.each.Given as goal
-
--- the volume leads on from where the loop began
-abbrev pub invariant-loop-page : goal.invariant-loop-page
-invariant-loop-page g l = g.V.Ground.leads l.initial.volume l.volume
