@@ -1,0 +1,3 @@
+pub mod EmptyVolumes
+pub mod NewCatalogs
+pub mod CommittedLoads

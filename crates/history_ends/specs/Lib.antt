@@ -1,0 +1,4 @@
+pub mod Pieces
+pub mod Placed
+pub mod Written
+pub mod Laws

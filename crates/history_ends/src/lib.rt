@@ -1,0 +1,20 @@
+//! What stands on a disk at the end of a load: a history whose leaves and nodes lie wherever they were put is one of the volume's table. It has definitions and
+//! their laws alone.
+#![tactic(auto)]
+
+ghost use Rattle.history_ends.specs.Laws.{StandingHistories, WholeTrees, WrittenLoads};
+
+/// A history that stands as a volume is a history of the volume's table. It does nothing: its contract is the law.
+pub fn a_history_that_stands_is_of_its_table()
+    ensures { StandingHistories }
+{}
+
+/// What was written and found by a walk loads once its catalog is committed. It does nothing: its contract is the law.
+pub fn what_was_written_loads()
+    ensures { WrittenLoads }
+{}
+
+/// Where a dump was written, each of its trees is whole. It does nothing: its contract is the law.
+pub fn the_trees_of_a_dump_are_whole()
+    ensures { WholeTrees }
+{}

@@ -1,0 +1,6 @@
+mod PiecesApart
+mod WalkedUnits
+mod StreamsRead
+mod Finishing
+mod EmptyVolumesStay
+mod WrittenBack
