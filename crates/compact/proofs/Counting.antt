@@ -11,7 +11,7 @@ use Rattle.trees.proofs.Released.{gone, without_one}
 use Rattle.compact.specs.High.{each_once}
 use Rattle.compact.proofs.Once.{once_has}
 
-times_of_has : (x : ℕ) (xs : List ℕ) → Has xs x → 1 ≤ times x xs
+pub times_of_has : (x : ℕ) (xs : List ℕ) → Has xs x → 1 ≤ times x xs
 times_of_has x [] has = absurd has
 times_of_has x (y ∷ xs) (inl same) = omega (arith, times_here x y xs (sym same))
 times_of_has x (y ∷ xs) (inr rest) = elim (same_or_not x y) [
@@ -56,7 +56,7 @@ once_in (x ∷ xs) p some = elim (same_or_not p x) [
   ]
 ]
 
-once_times : (xs : List ℕ) (p : ℕ) → times p (each_once xs) ≤ 1
+pub once_times : (xs : List ℕ) (p : ℕ) → times p (each_once xs) ≤ 1
 once_times [] p = omega arith
 once_times (x ∷ xs) p = elim (cases_Bool (nat_eq (times x xs) 0)) [
   | inl last ↦ subst (λ (b : Bool). times p (if b then x ∷ each_once xs else each_once xs) ≤ 1) (sym last) (elim (same_or_not p x) [

@@ -21,7 +21,7 @@ use Rattle.trees.proofs.Reading.{part_of_front}
 use Rattle.compact.specs.High.{is_high, free_below}
 use Rattle.compact.specs.Moved.{Copies, KeepsCopies, unmoved}
 use Rattle.compact.specs.Walk.{Move, CanMove, IsGoodPair, IsTreeOf, LeafCopied, TreeMoved}
-use Rattle.compact.proofs.Unmoved.{free_taken, lowest_low, unmoved_less, unmoved_one}
+use Rattle.compact.proofs.Unmoved.{free_less, lowest_index, lowest_low, unmoved_exact, unmoved_less}
 use Rattle.compact.proofs.Pairs.{begun_tree, good_self, pairs_later, pairs_put}
 use Rattle.compact.proofs.Steps.{free_before, others_same, step_noted}
 
@@ -33,6 +33,10 @@ at_root P u (suc l) page all = all.0
 take_same : (xs ys : List ℕ) (n most : ℕ) → n ≤ most → take most xs ≡ take most ys → take n xs ≡ take n ys
 take_same xs ys n most le same = sym (part_of_front xs 0 n most (omega (arith, le))) ∙ ap (take n) same ∙ part_of_front ys 0 n most (omega (arith, le))
 
+-- one copy of a unit
+pub same_copy : (a b : PageNo) → Some a ≡ Some b → a.0 ≡ b.0
+same_copy a b is = let same : a ≡ b = cc in ap (λ (p : PageNo). p.0) same
+
 module _ {S : Type 0} (g : ground.Ghosts S) where
   -- a tree that has a copy
   pub known_copy : (move : Move S) (dense : ℕ) (s : S) (moves : Copies) (l least : ℕ) (part : Part) (copy : PageNo) → CanMove g move dense s moves l least (part ∷ []) → moves part.page.0 ≡ Some copy
@@ -42,7 +46,7 @@ module _ {S : Type 0} (g : ground.Ghosts S) where
       let begun = begun_tree g move dense s l least part can.since t in
       record {
         good = can.pairs l part.page.0 copy (at_root (Has move.units) (g.unit s) l part.page.0 t.units) sent begun.0 begun.1;
-        step = step_noted g move dense s moves moves (units_on (g.unit s) l part.page.0) (units_on (g.unit s) l copy.0) (λ p c is. is) (λ p c is. inl is) can.pairs;
+        step = step_noted g move dense s moves moves (units_on (g.unit s) l part.page.0) (units_on (g.unit s) l copy.0) (λ p c is. is) refl (λ p c is. inl is) can.pairs;
       }
 
   -- a low leaf
@@ -50,7 +54,7 @@ module _ {S : Type 0} (g : ground.Ghosts S) where
       → TreeMoved g move dense s s moves moves 0 part.page.0 part.page.0
   low_leaf move dense s moves least part can low = record {
     good = good_self g move dense s 0 least part can.trees.0 (low, tt);
-    step = step_noted g move dense s moves moves (units_on (g.unit s) 0 part.page.0) (units_on (g.unit s) 0 part.page.0) (λ p c is. is) (λ p c is. inl is) can.pairs;
+    step = step_noted g move dense s moves moves (units_on (g.unit s) 0 part.page.0) (units_on (g.unit s) 0 part.page.0) (λ p c is. is) refl (λ p c is. inl is) can.pairs;
   }
 
   -- a high leaf is one of those to copy
@@ -84,7 +88,7 @@ module _ {S : Type 0} (g : ground.Ghosts S) where
       let t = can.trees.0 in
       let begun = begun_tree g move dense old 0 least part can.since t in
       let geo : g.geometry new ≡ g.geometry old = g.leads_geometry old new ext.leads in
-      let one : unmoved after move.leaves + 1 ≤ unmoved moves move.leaves = unmoved_one moves after move.leaves part.page.0 copy keeps (high_leaf move dense old least part t high) none here in
+      let one : unmoved after move.leaves + 1 ≡ unmoved moves move.leaves = unmoved_exact moves after move.leaves part.page.0 copy others (can.leaves.once part.page.0) (high_leaf move dense old least part t high) none here in
       let some : 1 ≤ free_below (g.geometry old) (g.used old) dense = omega (arith, one, can.room.low) in
       let low : is_high (g.geometry old) dense copy.0 ≡ false = lowest_low (g.geometry old) (g.used old) dense copy.0 copied.lowest some in
       let same : g.unit new part.page.0 ≡ g.unit old part.page.0 = ext.units part.page.0 t.used.0 in
@@ -98,6 +102,7 @@ module _ {S : Type 0} (g : ground.Ghosts S) where
           used = (taken.1, tt);
           low = (subst (λ (h : Geometry). is_high h dense copy.0 ≡ false) (sym geo) low, tt);
           still = λ not. absurd (true≢false (sym high ∙ subst (λ (h : Geometry). is_high h dense part.page.0 ≡ false) geo not));
+          stay = subst (λ (b : Bool). AllByRecursion (Has (copy.0 ∷ [])) (if b then [] else part.page.0 ∷ [])) (sym (subst (λ (h : Geometry). is_high h dense part.page.0 ≡ true) (sym geo) high)) tt;
         };
         own = (inl (free_before g move.start old copy.0 can.since taken.0, taken.1), tt);
       } in
@@ -110,14 +115,18 @@ module _ {S : Type 0} (g : ground.Ghosts S) where
             | inr nothing ↦ absurd nothing
           ];
           fresh = λ q c is. elim (cases_eq q part.page.0) [
-            | inl e ↦ inr (inl (sym e))
+            | inl e ↦ inr (inl (sym e), inl (same_copy copy c (sym here ∙ ap after (sym e) ∙ is)))
             | inr differ ↦ inl (sym (others q differ) ∙ is)
           ];
           pairs = pairs_put g move dense new moves after 0 part.page.0 copy here others begun.0 good (pairs_later g move dense old new moves can.since ext can.pairs);
           paid = record {
             of_pages = omega (arith, copied.spent.of_pages, unmoved_less moves after move.nodes keeps);
             of_leaves = omega (arith, copied.spent.of_leaves, one);
-            of_low = omega (arith, one, free_taken (g.geometry old) (g.used old) (g.used new) copy.0 dense (λ p differ. others_same g old new copy.0 p ext copied.took differ));
+            of_low = omega (
+              arith,
+              one,
+              free_less (g.geometry old) (g.used old) (g.used new) copy.0 dense copied.lowest.index (lowest_index (g.geometry old) (g.used old) dense copy.0 copied.lowest some) (sym copied.lowest.named) taken.0 taken.1 (λ p differ. others_same g old new copy.0 p ext copied.took differ),
+            );
           };
           counts = λ names. copied.counts;
         };

@@ -1,22 +1,25 @@
 -- The trees in a tree: their levels, and that what is read of them depends on their own units alone.
-use Rattle.std.proofs.Common.{◌≡◌, inl, inr, ℕ, zero, suc, ◌≤◌, Bool, List, [], ◌∷◌, ◌++◌, map, refl, ap, subst, ◌∙◌, arith}
+use Rattle.std.proofs.Common.{◌≡◌, inl, inr, ℕ, zero, suc, ◌≤◌, Bool, true, false, List, [], ◌∷◌, ◌++◌, map, refl, ap, subst, ◌∙◌, arith}
 use Rattle.std.specs.Prelude.{if◌then◌else◌, ◌||◌, ⊤}
 use Rattle.std.specs.List.{AllByRecursion, flat_map}
 use Rattle.ex_base.specs.declared.geometry.Geometry.{Geometry}
-use Rattle.ex_base.proofs.Each.{split_each, each_mapped, each_parted, flat_same}
+use Rattle.ex_base.specs.Area.{NamesLeaf}
+use Rattle.ex_base.proofs.Each.{split_each, each_as, each_mapped, each_parted, flat_same}
+use Rattle.ex_base.proofs.Rows.{each-append}
 use Rattle.trees.specs.declared.Pair.{Pair}
 use Rattle.trees.specs.Made.{Has}
 use Rattle.trees.specs.Names.{page_of_pair}
 use Rattle.trees.specs.Node.{pairs_on}
 use Rattle.trees.specs.Owners.{named_on, StandsAt}
-use Rattle.trees.specs.Rows.{row_units}
+use Rattle.trees.specs.Rows.{parts_of, row_units}
 use Rattle.trees.specs.Trees.{Units, IsNamed, units_on}
 use Rattle.trees.specs.declared.rows.Part.{Part}
+use Rattle.trees.proofs.Laid.{has_left, has_right}
 use Rattle.trees.proofs.Over.{has_split}
 use Rattle.trees.proofs.Owned.{one_level}
 use Rattle.trees.proofs.Parts.{narrow}
 use Rattle.trees.proofs.SameUnits.{Kept}
-use Rattle.compact.specs.High.{any_of, has_high, nodes_above, high_leaves}
+use Rattle.compact.specs.High.{any_of, has_high, is_high, nodes_above, high_leaves, low_leaves}
 
 -- ---- levels
 
@@ -75,9 +78,10 @@ pub record SameHigh (g : Geometry) (dense : ℕ) (u v : Units) (l page : ℕ) : 
   pub high : has_high g dense v l page ≡ has_high g dense u l page
   pub nodes : nodes_above g dense v l page ≡ nodes_above g dense u l page
   pub leaves : high_leaves g dense v l page ≡ high_leaves g dense u l page
+  pub low : low_leaves g dense v l page ≡ low_leaves g dense u l page
 
 pub high_same : (g : Geometry) (dense : ℕ) (u v : Units) (l page : ℕ) → Kept u v (units_on u l page) → SameHigh g dense u v l page
-high_same g dense u v zero page kept = record { high = refl; nodes = refl; leaves = refl }
+high_same g dense u v zero page kept = record { high = refl; nodes = refl; leaves = refl; low = refl }
 high_same g dense u v (suc l) page kept =
     let names : named_on v page ≡ named_on u page = ap (λ (b : List ℕ). map page_of_pair (pairs_on b)) kept.0 in
     let each : AllByRecursion (λ q. Kept u v (units_on u l q)) (named_on u page) =
@@ -90,4 +94,48 @@ high_same g dense u v (suc l) page kept =
       high = high;
       nodes = ap (λ (b : Bool). (if b then page ∷ [] else []) ++ flat_map (nodes_above g dense v l) (named_on v page)) high ∙ ap (λ (xs : List ℕ). (if has_high g dense u (suc l) page then page ∷ [] else []) ++ xs) below;
       leaves = ap (flat_map (high_leaves g dense v l)) names ∙ flat_same (high_leaves g dense u l) (high_leaves g dense v l) (λ q. Kept u v (units_on u l q)) (named_on u page) (λ q k. (high_same g dense u v l q k).leaves) each;
+      low = ap (flat_map (low_leaves g dense v l)) names ∙ flat_same (low_leaves g dense u l) (low_leaves g dense v l) (λ q. Kept u v (units_on u l q)) (named_on u page) (λ q k. (high_same g dense u v l q k).low) each;
     }
+
+-- ---- leaves
+
+-- the leaves of a tree that aren't high are units of it
+low_pairs : (g : Geometry) (dense : ℕ) (u : Units) (l : ℕ) (pairs : List Pair) → ((page : ℕ) → AllByRecursion (Has (units_on u l page)) (low_leaves g dense u l page))
+    → AllByRecursion (Has (flat_map (λ (pair : Pair). units_on u l pair.page.0) pairs)) (flat_map (low_leaves g dense u l) (map page_of_pair pairs))
+low_pairs g dense u l [] one = tt
+low_pairs g dense u l (pair ∷ pairs) one =
+    let here = units_on u l pair.page.0 in
+    let rest = flat_map (λ (p : Pair). units_on u l p.page.0) pairs in
+    each-append (Has (here ++ rest)) (low_leaves g dense u l pair.page.0) (flat_map (low_leaves g dense u l) (map page_of_pair pairs))
+    (each_as (Has here) (Has (here ++ rest)) (low_leaves g dense u l pair.page.0) (λ p has. has_left here rest p has) (one pair.page.0))
+    (each_as (Has rest) (Has (here ++ rest)) (flat_map (low_leaves g dense u l) (map page_of_pair pairs)) (λ p has. has_right here rest p has) (low_pairs g dense u l pairs one))
+
+pub low_inside : (g : Geometry) (dense : ℕ) (u : Units) (l page : ℕ) → AllByRecursion (Has (units_on u l page)) (low_leaves g dense u l page)
+low_inside g dense u zero page = by_test (is_high g dense page)
+  where
+    by_test : (b : Bool) → AllByRecursion (Has (page ∷ [])) (if b then [] else page ∷ [])
+    by_test true = tt
+    by_test false = (inl refl, tt)
+low_inside g dense u (suc l) page =
+    let below = flat_map (λ (pair : Pair). units_on u l pair.page.0) (pairs_on (u page)) in
+    each_as (Has below) (Has (page ∷ below)) (flat_map (low_leaves g dense u l) (named_on u page)) (λ p has. inr has) (low_pairs g dense u l (pairs_on (u page)) (λ q. low_inside g dense u l q))
+
+-- and the high ones are named as leaves
+high_pairs : (g : Geometry) (dense : ℕ) (u : Units) (l : ℕ) (pairs : List Pair) → ((page : ℕ) → IsNamed g u l page → AllByRecursion (NamesLeaf g) (high_leaves g dense u l page)) → AllByRecursion (λ (pair : Pair). IsNamed g u l pair.page.0) pairs
+    → AllByRecursion (NamesLeaf g) (flat_map (high_leaves g dense u l) (map page_of_pair pairs))
+high_pairs g dense u l [] one named = tt
+high_pairs g dense u l (pair ∷ pairs) one named =
+    each-append (NamesLeaf g) (high_leaves g dense u l pair.page.0) (flat_map (high_leaves g dense u l) (map page_of_pair pairs)) (one pair.page.0 named.0) (high_pairs g dense u l pairs one named.1)
+
+pub high_named : (g : Geometry) (dense : ℕ) (u : Units) (l page : ℕ) → IsNamed g u l page → AllByRecursion (NamesLeaf g) (high_leaves g dense u l page)
+high_named g dense u zero page named = by_test (is_high g dense page)
+  where
+    by_test : (b : Bool) → AllByRecursion (NamesLeaf g) (if b then page ∷ [] else [])
+    by_test true = (named, tt)
+    by_test false = tt
+high_named g dense u (suc l) page named = high_pairs g dense u l (pairs_on (u page)) (λ q n. high_named g dense u l q n) named.2
+
+-- the leaves below the trees of a node's row are those below its pairs
+pub low_row : (f : ℕ → List ℕ) (before : ℕ) (pairs : List Pair) → flat_map (λ (part : Part). f part.page.0) (parts_of before pairs) ≡ flat_map f (map page_of_pair pairs)
+low_row f before [] = refl
+low_row f before (pair ∷ pairs) = ap (λ (xs : List ℕ). f pair.page.0 ++ xs) (low_row f pair.count pairs)

@@ -58,7 +58,7 @@ module _ {S : Type 0} (g : ground.Ghosts S) where
     buffer = refl;
     moved = λ told l same move can. record {
       good = tt;
-      step = step_noted g move dense old moves moves [] [] (λ p c is. is) (λ p c is. inl is) can.pairs;
+      step = step_noted g move dense old moves moves [] [] (λ p c is. is) refl (λ p c is. inl is) can.pairs;
       same = λ no. refl;
       above = λ is. absurd (true≢false (sym is));
     };

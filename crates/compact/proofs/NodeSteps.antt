@@ -26,15 +26,15 @@ use Rattle.trees.proofs.Over.{has_split}
 use Rattle.trees.proofs.Reading.{row_spells, shape_below, units_below}
 use Rattle.trees.proofs.RootSteps.{has_each}
 use Rattle.trees.proofs.Kept.{row_extends}
-use Rattle.compact.specs.High.{has_high, is_high, nodes_above}
+use Rattle.compact.specs.High.{has_high, is_high, low_leaves, nodes_above}
 use Rattle.compact.specs.Moved.{AreLow, Copies, IsOwn, KeepsCopies, unmoved}
 use Rattle.compact.specs.Walk.{CanMove, IsGoodPair, IsTreeOf, Move, NodeMade, RowMoved, Stepped, TreeMoved}
-use Rattle.compact.proofs.LeafSteps.{at_root}
-use Rattle.compact.proofs.Levels.{high_same, not_below}
+use Rattle.compact.proofs.LeafSteps.{at_root, same_copy}
+use Rattle.compact.proofs.Levels.{high_same, low_row, not_below}
 use Rattle.compact.proofs.Pairs.{begun_tree, each_later, good_later, good_self, kept_of, pairs_later, pairs_put, tree_later}
 use Rattle.compact.proofs.Rows.{RowAs, any_high, row_as, trees_below}
 use Rattle.compact.proofs.Steps.{free_before, others_same, room_later, step_as, step_kept, step_noted, step_on}
-use Rattle.compact.proofs.Unmoved.{free_beside, page_low, unmoved_less, unmoved_one, unmoved_some}
+use Rattle.compact.proofs.Unmoved.{free_beside, no_leaf_page, page_low, unmoved_one, unmoved_same, unmoved_some}
 
 -- the units of a node's tree are the node and those of its row
 node_units : (u : Units) (l : ℕ) (part : Part) (below : List Part) → below ≡ parts_of 0 (pairs_on (u part.page.0)) → units_on u (suc l) part.page.0 ≡ part.page.0 ∷ row_units u l below
@@ -99,7 +99,7 @@ module _ {S : Type 0} (g : ground.Ghosts S) where
       each_as (IsTreeOf g move dense a l (g.geometry a).fan) (λ (p : Part). IsNamed (g.geometry a) (g.unit a) l p.page.0) below (λ p t. t.named) (trees_below g move dense a l least part below x.can.trees.0 x.is) in
       none_from (mid part.page.0) (λ c is. elim (x.step.fresh part.page.0 c is) [
         | inl before ↦ some_apart c (sym before ∙ x.none)
-        | inr has ↦ not_below (g.geometry a) (g.unit a) l part.page.0 below x.can.trees.0.named named has
+        | inr has ↦ not_below (g.geometry a) (g.unit a) l part.page.0 below x.can.trees.0.named named has.0
       ])
 
   -- the node is one to copy where a tree below it is another one
@@ -117,9 +117,9 @@ module _ {S : Type 0} (g : ground.Ghosts S) where
 
   -- ---- the node gets its copy
 
-  fresh_one : (moves after : Copies) (page : ℕ) → ((q : ℕ) → q ≢ page → after q ≡ moves q) → (q : ℕ) (c : PageNo) → after q ≡ Some c → (moves q ≡ Some c) ⊎ Has (page ∷ []) q
-  fresh_one moves after page others q c is = elim (cases_eq q page) [
-    | inl e ↦ inr (inl (sym e))
+  fresh_one : (moves after : Copies) (page : ℕ) (copy : PageNo) → after page ≡ Some copy → ((q : ℕ) → q ≢ page → after q ≡ moves q) → (q : ℕ) (c : PageNo) → after q ≡ Some c → (moves q ≡ Some c) ⊎ (Has (page ∷ []) q × Has (copy.0 ∷ []) c.0)
+  fresh_one moves after page copy here others q c is = elim (cases_eq q page) [
+    | inl e ↦ inr (inl (sym e), inl (same_copy copy c (sym here ∙ ap after (sym e) ∙ is)))
     | inr differ ↦ inl (sym (others q differ) ∙ is)
   ]
 
@@ -144,7 +144,7 @@ module _ {S : Type 0} (g : ground.Ghosts S) where
       let good = good_self g move dense b (suc l) least part tree low in
       let begun = begun_tree g move dense a (suc l) least part x.can.since was in
       let pairs = pairs_put g move dense b mid after (suc l) part.page.0 part.page here others begun.0 good x.step.pairs in
-      let noted = step_noted g move dense b mid after (part.page.0 ∷ []) (part.page.0 ∷ []) keeps (fresh_one mid after part.page.0 others) pairs in
+      let noted = step_noted g move dense b mid after (part.page.0 ∷ []) (part.page.0 ∷ []) keeps (unmoved_same mid after move.leaves part.page.0 others (no_leaf_page (g.geometry a) move.leaves part.page.0 x.can.leaves was.named.0)) (fresh_one mid after part.page.0 part.page here others) pairs in
       record {
         good = good;
         step = step_as g move dense a b moves after (row_units (g.unit a) l below ++ (part.page.0 ∷ [])) (row_units (g.unit b) l made ++ (part.page.0 ∷ [])) (units_on (g.unit a) (suc l) part.page.0) (units_on (g.unit b) (suc l) part.page.0)
@@ -184,6 +184,12 @@ module _ {S : Type 0} (g : ground.Ghosts S) where
       used = each_unit (λ p. g.used c p ≡ true) c l made (record { size = part.size; page = record { 0 = node } }) built used rows.used;
       low = each_unit (λ p. is_high (g.geometry c) dense p ≡ false) c l made (record { size = part.size; page = record { 0 = node } }) built (page_low (g.geometry c) dense node built.trees.0.0.0) rows.low;
       still = λ none. absurd (true≢false (sym high ∙ none));
+      stay =
+          let leaves : flat_map (λ (p : Part). low_leaves (g.geometry c) dense (g.unit c) l p.page.0) below ≡ low_leaves (g.geometry c) dense (g.unit c) (suc l) part.page.0 =
+          ap (flat_map (λ (p : Part). low_leaves (g.geometry c) dense (g.unit c) l p.page.0)) is ∙ low_row (low_leaves (g.geometry c) dense (g.unit c) l) 0 (pairs_on (g.unit c part.page.0)) in
+          each_as (Has (row_units (g.unit c) l made)) (Has (units_on (g.unit c) (suc l) node)) (low_leaves (g.geometry c) dense (g.unit c) (suc l) part.page.0)
+          (λ p has. subst (λ (xs : List ℕ). Has xs p) (append-nil (units_on (g.unit c) (suc l) node)) (built.all p (inr has)))
+          (subst (AllByRecursion (Has (row_units (g.unit c) l made))) leaves rows.stay);
     };
     own = each_unit (IsOwn g move.start c move.first move.units) c l made (record { size = part.size; page = record { 0 = node } }) built (inl (free, used)) rows.own;
   }
@@ -211,18 +217,19 @@ module _ {S : Type 0} (g : ground.Ghosts S) where
       let begun = begun_tree g move dense a (suc l) least part x.can.since was in
       let one : unmoved after move.nodes + 1 ≤ unmoved mid move.nodes = unmoved_one mid after move.nodes part.page.0 node keeps (node_listed move dense a l least part was high_then) (no_copy move dense a b moves mid l least part below made changed x) here in
       let area = subst (λ (h : Geometry). InPageArea h node.0) (g.leads_geometry b c ext.leads) new.built.trees.0.0.0 in
+      let alike = unmoved_same mid after move.leaves part.page.0 others (no_leaf_page (g.geometry a) move.leaves part.page.0 x.can.leaves was.named.0) in
       let last : Stepped g move dense b c mid after (part.page.0 ∷ []) (node.0 ∷ []) = record {
         all = new.took.all;
         copies = λ p taken_now. elim (new.took.all p taken_now) [
           | inl e ↦ (part.page.0, node, at_root (Has move.units) (g.unit a) (suc l) part.page.0 was.units, here, e)
           | inr none ↦ absurd none
         ];
-        fresh = fresh_one mid after part.page.0 others;
+        fresh = fresh_one mid after part.page.0 node here others;
         pairs = pairs_put g move dense c mid after (suc l) part.page.0 node here others begun.0 good (pairs_later g move dense b c mid since ext x.step.pairs);
         paid = record {
           of_pages = omega (arith, new.spent.of_pages, one);
-          of_leaves = omega (arith, new.spent.of_leaves, unmoved_less mid after move.leaves keeps);
-          of_low = omega (arith, unmoved_less mid after move.leaves keeps, free_beside (g.geometry b) (g.used b) (g.used c) node.0 dense area (λ p differ. others_same g b c node.0 p ext new.took differ));
+          of_leaves = omega (arith, new.spent.of_leaves, alike);
+          of_low = omega (arith, alike, free_beside (g.geometry b) (g.used b) (g.used c) node.0 dense area (λ p differ. others_same g b c node.0 p ext new.took differ));
         };
         counts = new.counts;
       } in

@@ -12,10 +12,10 @@ use Rattle.trees.specs.Made.{AreUsed, Extends, Has}
 use Rattle.trees.specs.Trees.{Units, IsNamed, HasSize, shape_on, units_on}
 use Rattle.trees.specs.declared.rows.Part.{Part}
 use Rattle.trees.proofs.SameUnits.{Kept, units_same, bytes_same, shape_same, named_same, sized_same}
-use Rattle.compact.specs.High.{has_high, nodes_above, high_leaves}
+use Rattle.compact.specs.High.{has_high, nodes_above, high_leaves, low_leaves}
 use Rattle.compact.specs.Moved.{Copies, AreLow, IsOwn}
 use Rattle.compact.specs.Walk.{Move, HasLeast, IsTreeOf, IsGoodPair, AreGood}
-use Rattle.compact.proofs.Levels.{same_level, high_same}
+use Rattle.compact.proofs.Levels.{same_level, high_same, low_inside}
 
 pub kept_back : (u v : Units) (l page : ℕ) → Kept u v (units_on u l page) → Kept v u (units_on v l page)
 kept_back u v l page kept = subst (Kept v u) (sym (units_same u v l page kept)) (each_as (λ p. v p ≡ u p) (λ p. u p ≡ v p) (units_on u l page) (λ p e. sym e) kept)
@@ -75,6 +75,9 @@ module _ {S : Type 0} (g : ground.Ghosts S) where
           used = subst (AreUsed (g.used b)) (sym units) (used_on a b (units_on (g.unit a) l copy) ext s.used);
           low = subst (λ (h : Geometry). AreLow h dense (units_on (g.unit b) l copy)) (sym geo) (subst (AreLow (g.geometry a) dense) (sym units) s.low);
           still = λ none. s.still (sym (high_same (g.geometry a) dense (g.unit a) (g.unit b) l page from).high ∙ subst (λ (h : Geometry). has_high h dense (g.unit b) l page ≡ false) geo none);
+          stay = subst (λ (h : Geometry). AllByRecursion (Has (units_on (g.unit b) l copy)) (low_leaves h dense (g.unit b) l page)) (sym geo)
+              (subst (AllByRecursion (Has (units_on (g.unit b) l copy))) (sym (high_same (g.geometry a) dense (g.unit a) (g.unit b) l page from).low)
+              (subst (λ (us : List ℕ). AllByRecursion (Has us) (low_leaves (g.geometry a) dense (g.unit a) l page)) (sym units) s.stay));
         };
         own = subst (AllByRecursion (IsOwn g move.start b move.first move.units)) (sym units) (own_later move a b (units_on (g.unit a) l copy) ext good.own);
       }
@@ -109,6 +112,6 @@ module _ {S : Type 0} (g : ground.Ghosts S) where
   -- a tree without a high unit is its own copy
   pub good_self : (move : Move S) (dense : ℕ) (s : S) (l least : ℕ) (part : Part) → IsTreeOf g move dense s l least part → AreLow (g.geometry s) dense (units_on (g.unit s) l part.page.0) → IsGoodPair g move dense s l part.page.0 part.page.0
   good_self move dense s l least part t low = record {
-    sound = record { named = t.named; sized = λ n h. h; bytes = λ n h. refl; shape = λ n h. refl; used = t.used; low = low; still = λ none. refl };
+    sound = record { named = t.named; sized = λ n h. h; bytes = λ n h. refl; shape = λ n h. refl; used = t.used; low = low; still = λ none. refl; stay = low_inside (g.geometry s) dense (g.unit s) l part.page.0 };
     own = each_as (Has move.units) (IsOwn g move.start s move.first move.units) (units_on (g.unit s) l part.page.0) (λ p has. inr (inl has)) t.units;
   }

@@ -1,22 +1,30 @@
 -- The tree of a root that is moved.
-use Rattle.std.proofs.Common.{◌≡◌, inr, ℕ, zero, suc, true, List, [], ◌∷◌, Some, refl, sym, ap, subst, ◌∙◌}
+use Rattle.std.proofs.Common.{◌≡◌, inl, inr, ℕ, zero, suc, Bool, true, List, [], ◌∷◌, Some, refl, sym, ap, subst, ◌∙◌}
+use Rattle.std.specs.Prelude.{if◌then◌else◌, nat_eq}
+use Rattle.std.specs.List.{AllByRecursion}
+use Rattle.std.proofs.lemmas.Bool.{cases_Bool}
+use Rattle.std.proofs.lemmas.List.{append-nil}
 use Rattle.ex_base.specs.declared.geometry.Geometry.{Geometry}
 use Rattle.ex_base.specs.declared.ground.Ground as ground
 use Rattle.ex_base.specs.declared.names.PageNo.{PageNo}
 use Rattle.ex_base.specs.declared.names.Root.{Root}
 use Rattle.ex_base.specs.Sizes.{leaf_bytes}
-use Rattle.ex_base.proofs.Each.{each_as}
+use Rattle.ex_base.specs.Area.{NamesLeaf}
+use Rattle.ex_base.specs.Ports.{times}
+use Rattle.ex_base.proofs.Each.{each_as, each_joined}
 use Rattle.trees.specs.Made.{AreUsed, Extends, Has}
 use Rattle.trees.specs.Shape.{Subtree, IsRoot}
-use Rattle.trees.specs.Trees.{IsNamed, bytes_on, root_units, shape_on, units_on}
+use Rattle.trees.specs.Owners.{page_here}
+use Rattle.trees.specs.Trees.{Units, IsNamed, bytes_on, root_units, shape_on, units_on}
 use Rattle.trees.specs.declared.rows.Part.{Part}
 use Rattle.trees.proofs.Laid.{extends_refl}
 use Rattle.trees.proofs.Over.{all_has}
 use Rattle.trees.proofs.SameUnits.{bytes_same, named_same, shape_same}
-use Rattle.compact.specs.High.{each_once, high_leaves, nodes_above, root_high_leaves, root_nodes_above}
-use Rattle.compact.specs.Moved.{AreSound, Copies, IsMoved, IsOwn, IsSoundPair, MayMove}
-use Rattle.compact.specs.Walk.{AreGood, CanMove, HasLeast, IsTreeOf, Move, TreeMoved}
-use Rattle.compact.proofs.Levels.{same_level, sub_tree}
+use Rattle.compact.specs.High.{each_once, high_leaves, low_leaves, nodes_above, root_high_leaves, root_low_leaves, root_nodes_above}
+use Rattle.compact.specs.Moved.{Copies, IsMoved, IsOwn, MayMove}
+use Rattle.compact.specs.Walk.{AreGood, AreLeaves, CanMove, HasLeast, IsGoodPair, IsTreeOf, Move, TreeMoved}
+use Rattle.compact.proofs.Counting.{once_times}
+use Rattle.compact.proofs.Levels.{high_named, high_same, same_level, sub_tree}
 use Rattle.compact.proofs.Once.{front_once}
 use Rattle.compact.proofs.Pairs.{kept_of, tree_later}
 
@@ -29,6 +37,21 @@ root_at height page size = record { height = height; page = Some page; size = si
 
 abbrev part_at : PageNo → ℕ → Part
 part_at page size = record { size = size; page = page }
+
+-- the high leaves of a whole tree, each once
+each_of_once : (P : ℕ → Type 0) (xs : List ℕ) → AllByRecursion P xs → AllByRecursion P (each_once xs)
+each_of_once P [] all = tt
+each_of_once P (x ∷ xs) all = elim (cases_Bool (nat_eq (times x xs) 0)) [
+  | inl last ↦ subst (λ (b : Bool). AllByRecursion P (if b then x ∷ each_once xs else each_once xs)) (sym last) (all.0, each_of_once P xs all.1)
+  | inr more ↦ subst (λ (b : Bool). AllByRecursion P (if b then x ∷ each_once xs else each_once xs)) (sym more) (each_of_once P xs all.1)
+]
+
+root_leaves : (g : Geometry) (dense : ℕ) (u : Units) (root : Root) → AllByRecursion (λ p. IsNamed g u root.height p) (page_here root.page) → AreLeaves g (each_once (root_high_leaves g dense u root))
+root_leaves g dense u root named = record {
+  named = each_of_once (NamesLeaf g) (root_high_leaves g dense u root) (each_joined (NamesLeaf g) (high_leaves g dense u root.height) (page_here root.page)
+      (each_as (λ p. IsNamed g u root.height p) (λ p. AllByRecursion (NamesLeaf g) (high_leaves g dense u root.height p)) (page_here root.page) (λ p n. high_named g dense u root.height p n) named));
+  once = λ p. once_times (root_high_leaves g dense u root) p;
+}
 
 module _ {S : Type 0} (g : ground.Ghosts S) where
   -- the move of a root's tree
@@ -64,19 +87,21 @@ module _ {S : Type 0} (g : ground.Ghosts S) where
           own = each_as (Has (units_on (g.unit s) level copy.0)) (IsOwn g s s moves units) (units_on (g.unit s) level copy.0)
               (λ q here. inr (inr (record { level = level; page = p; copy = copy; inside = has; sent = sent; named = named; below = here }))) (all_has (units_on (g.unit s) level copy.0));
         };
+        leaves = root_leaves (g.geometry s) dense (g.unit s) (root_at height page size) (spells.named, tt);
         room = record { pages = may.pages; leaves = may.leaves; low = may.low };
       }
 
-  -- each copy of a unit of the tree is sound in the end
-  sound_copies : (old new : S) (dense : ℕ) (moves after : Copies) (move : Move S) (height : ℕ) (page : PageNo) → Extends g old new → move.start ≡ old → IsNamed (g.geometry old) (g.unit old) height page.0 → AreUsed (g.used old) (units_on (g.unit old) height page.0)
-      → move.units ≡ units_on (g.unit old) height page.0 → AreGood g move dense new after → AreSound g new dense after (units_on (g.unit old) height page.0)
-  sound_copies old new dense moves after move height page ext start named used units good = λ level p copy has sent there.
+  -- each copy of a unit of the tree is good in the end
+  good_copies : (old new : S) (dense : ℕ) (moves after : Copies) (move : Move S) (height : ℕ) (page : PageNo) → Extends g old new → move.start ≡ old → IsNamed (g.geometry old) (g.unit old) height page.0 → AreUsed (g.used old) (units_on (g.unit old) height page.0)
+      → move.units ≡ units_on (g.unit old) height page.0 → AreGood g move dense new after
+      → (level p : ℕ) (copy : PageNo) → Has (units_on (g.unit old) height page.0) p → after p ≡ Some copy → IsNamed (g.geometry new) (g.unit new) level p → IsGoodPair g move dense new level p copy.0
+  good_copies old new dense moves after move height page ext start named used units good = λ level p copy has sent there.
       let sub = sub_tree (g.geometry old) (g.unit old) (λ q. g.used old q ≡ true) height page.0 p named used has in
       let now : IsNamed (g.geometry new) (g.unit new) sub.level p = subst (λ (h : Geometry). IsNamed h (g.unit new) sub.level p) (sym (g.leads_geometry old new ext.leads))
       (named_same (g.geometry old) (g.unit old) (g.unit new) sub.level p (kept_of g old new (units_on (g.unit old) sub.level p) ext sub.all) sub.named) in
       let at : sub.level ≡ level = same_level (g.geometry new) (g.unit new) sub.level level p now there in
       let pair = good sub.level p copy (subst (λ (xs : List ℕ). Has xs p) (sym units) has) sent (subst (λ (s : S). IsNamed (g.geometry s) (g.unit s) sub.level p) (sym start) sub.named) (subst (λ (s : S). AreUsed (g.used s) (units_on (g.unit s) sub.level p)) (sym start) sub.all) in
-      subst (λ k. IsSoundPair (g.geometry new) (g.unit new) (g.used new) dense k p copy.0) at pair.sound
+      subst (λ k. IsGoodPair g move dense new k p copy.0) at pair
 
   pub root_moved : (old new : S) (dense : ℕ) (moves after : Copies) (height size : ℕ) (page copy : PageNo) → Extends g old new → MayMove g old dense moves (root_at height page size)
       → TreeMoved g (move_of old dense moves (root_at height page size)) dense old new moves after height page.0 copy.0 → IsMoved g old new dense moves after (root_at height page size) (root_at height copy size)
@@ -88,6 +113,7 @@ module _ {S : Type 0} (g : ground.Ghosts S) where
       let geo : g.geometry new ≡ g.geometry old = g.leads_geometry old new ext.leads in
       let kept = kept_of g old new (units_on (g.unit old) height page.0) ext was.used in
       let sound = x.good.sound in
+      let copies = good_copies old new dense moves after move height page ext refl was.named was.used refl x.step.pairs in
       let shape : shape_on (g.unit new) height copy.0 size ≡ shape_on (g.unit old) height page.0 size = sound.shape size tree.sized ∙ shape_same (g.unit old) (g.unit new) height page.0 size kept in
       let bytes : bytes_on (g.unit new) height copy.0 size ≡ bytes_on (g.unit old) height page.0 size = sound.bytes size tree.sized ∙ bytes_same (g.unit old) (g.unit new) height page.0 size kept in
       record {
@@ -100,11 +126,16 @@ module _ {S : Type 0} (g : ground.Ghosts S) where
         shape = ap (λ (t : Subtree height). Some (height, t)) shape;
         used = sound.used;
         low = sound.low;
+        stay =
+            let leaves : low_leaves (g.geometry new) dense (g.unit new) height page.0 ≡ root_low_leaves (g.geometry old) dense (g.unit old) (root_at height page size) =
+            ap (λ (h : Geometry). low_leaves h dense (g.unit new) height page.0) geo ∙ (high_same (g.geometry old) dense (g.unit old) (g.unit new) height page.0 kept).low ∙ sym (append-nil (low_leaves (g.geometry old) dense (g.unit old) height page.0)) in
+            subst (AllByRecursion (Has (units_on (g.unit new) height copy.0))) leaves sound.stay;
         own = x.good.own;
         all = x.step.all;
         copies = x.step.copies;
         fresh = x.step.fresh;
-        sound = sound_copies old new dense moves after move height page ext refl was.named was.used refl x.step.pairs;
+        of_copies = λ level p c has sent named. (copies level p c has sent named).own;
+        sound = λ level p c has sent named. (copies level p c has sent named).sound;
         paid = x.step.paid;
         counts = x.step.counts;
       }

@@ -10,7 +10,7 @@ use Rattle.ex_base.specs.declared.ground.Ground as ground
 use Rattle.ex_base.specs.Area.{catalog_no}
 use Rattle.ex_base.specs.Ports.{IsDamage, Keeps}
 use Rattle.ex_base.specs.Sizes.{leaf_bytes}
-use Rattle.ex_base.proofs.Each.{each_at, split_each}
+use Rattle.ex_base.proofs.Each.{each_as, each_at, split_each}
 use Rattle.ex_base.proofs.Rows.{each-append}
 use Rattle.trees.specs.declared.Pair.{Pair}
 use Rattle.trees.specs.Damage.{AnyPart, AvoidsCatalog, IsNodeFault}
@@ -21,12 +21,12 @@ use Rattle.trees.specs.Rows.{AreTrees, IsRowOn, parts_of, row_bytes, row_shape, 
 use Rattle.trees.specs.Shape.{Subtree, IsHalfFull}
 use Rattle.trees.specs.Trees.{Units, IsNamed, HasSize, EachChild, bytes_on, for_each_child, shape_on, units_on}
 use Rattle.trees.specs.declared.rows.Part.{Part}
-use Rattle.trees.proofs.Laid.{extends_kept, extends_on}
+use Rattle.trees.proofs.Laid.{extends_kept, extends_on, has_left, has_right}
 use Rattle.trees.proofs.Reading.{no_part}
 use Rattle.trees.proofs.Sound.{sound_walk}
-use Rattle.compact.specs.High.{any_of, has_high, nodes_above, high_leaves}
+use Rattle.compact.specs.High.{any_of, has_high, nodes_above, high_leaves, low_leaves}
 use Rattle.compact.specs.Moved.{AreLow, Copies, IsOwn}
-use Rattle.compact.specs.Walk.{CanMove, HasLeast, IsGoodPair, IsTreeOf, Move, Stepped}
+use Rattle.compact.specs.Walk.{AreLeaves, CanMove, HasLeast, IsGoodPair, IsTreeOf, Move, Stepped}
 use Rattle.compact.proofs.Pairs.{each_later, pairs_later, tree_later}
 use Rattle.compact.proofs.Steps.{paid_kept, room_later}
 
@@ -83,7 +83,8 @@ module _ {S : Type 0} (g : ground.Ghosts S) where
         since = extends_on g move.start a b can.since ext;
         trees = each_later g move dense a b l least row ext can.trees;
         pairs = pairs_later g move dense a b moves can.since ext can.pairs;
-        room = room_later g move dense a b moves moves k.leads (paid_kept g a b dense moves moves move.nodes move.leaves k.used k.free (λ p c is. is)) can.room;
+        leaves = subst (λ (h : Geometry). AreLeaves h move.leaves) (sym (g.leads_geometry a b k.leads)) can.leaves;
+        room = room_later g move dense a b moves moves k.leads (paid_kept g a b dense moves moves move.nodes move.leaves k.used k.free (λ p c is. is) refl) can.room;
       }
 
   -- so can the trees below a node that was read
@@ -92,7 +93,7 @@ module _ {S : Type 0} (g : ground.Ghosts S) where
   can_below move dense a b moves l level least part below k row can =
       let now = can_kept move dense a b moves (suc l) least (part ∷ []) k can in
       let is : below ≡ parts_of 0 (pairs_on (g.unit b part.page.0)) = row.parts ∙ ap (λ (f : ℕ → List ℕ). parts_of 0 (pairs_on (f part.page.0))) (sym k.units) in
-      record { since = now.since; trees = trees_below move dense b l least part below now.trees.0 is; pairs = now.pairs; room = now.room }
+      record { since = now.since; trees = trees_below move dense b l least part below now.trees.0 is; pairs = now.pairs; leaves = now.leaves; room = now.room }
 
   -- one of a row's trees, in a state to which the trees before it were moved
   pub can_at : (move : Move S) (dense : ℕ) (old now : S) (moves after : Copies) (l least i : ℕ) (row : List Part) (was units : List ℕ) → i < length row → Extends g old now → CanMove g move dense old moves l least row
@@ -101,6 +102,7 @@ module _ {S : Type 0} (g : ground.Ghosts S) where
     since = extends_on g move.start old now can.since ext;
     trees = (tree_later g move dense old now l least (get_or row i no_part) ext (each_at (IsTreeOf g move dense old l least) row i no_part lt can.trees), tt);
     pairs = step.pairs;
+    leaves = subst (λ (h : Geometry). AreLeaves h move.leaves) (sym (g.leads_geometry old now ext.leads)) can.leaves;
     room = room_later g move dense old now moves after ext.leads step.paid can.room;
   }
 
@@ -122,10 +124,11 @@ module _ {S : Type 0} (g : ground.Ghosts S) where
     pub used : AreUsed (g.used s) (row_units (g.unit s) l made)
     pub low : AreLow (g.geometry s) dense (row_units (g.unit s) l made)
     pub own : AllByRecursion (IsOwn g move.start s move.first move.units) (row_units (g.unit s) l made)
+    pub stay : AllByRecursion (Has (row_units (g.unit s) l made)) (flat_map (λ (part : Part). low_leaves (g.geometry s) dense (g.unit s) l part.page.0) row)
 
   pub row_as : (move : Move S) (dense : ℕ) (s : S) (l least : ℕ) (row made : List Part) → AllZip (λ (part copy : Part). IsGoodPair g move dense s l part.page.0 copy.page.0) row made → sizes_of made ≡ sizes_of row
       → AllByRecursion (IsTreeOf g move dense s l least) row → RowAs move dense s l row made
-  row_as move dense s l least [] [] good sizes trees = record { trees = tt; bytes = refl; shape = refl; used = tt; low = tt; own = tt }
+  row_as move dense s l least [] [] good sizes trees = record { trees = tt; bytes = refl; shape = refl; used = tt; low = tt; own = tt; stay = tt }
   row_as move dense s l least [] (copy ∷ made) good sizes trees = absurd good
   row_as move dense s l least (part ∷ row) [] good sizes trees = absurd good
   row_as move dense s l least (part ∷ row) (copy ∷ made) good sizes trees =
@@ -143,4 +146,11 @@ module _ {S : Type 0} (g : ground.Ghosts S) where
         used = each-append (λ p. g.used s p ≡ true) (units_on (g.unit s) l copy.page.0) (row_units (g.unit s) l made) sound.used rest.used;
         low = each-append _ (units_on (g.unit s) l copy.page.0) (row_units (g.unit s) l made) sound.low rest.low;
         own = each-append (IsOwn g move.start s move.first move.units) (units_on (g.unit s) l copy.page.0) (row_units (g.unit s) l made) good.0.own rest.own;
+        stay =
+            let here = low_leaves (g.geometry s) dense (g.unit s) l part.page.0 in
+            let behind = flat_map (λ (p : Part). low_leaves (g.geometry s) dense (g.unit s) l p.page.0) row in
+            let first = units_on (g.unit s) l copy.page.0 in
+            let others = row_units (g.unit s) l made in
+            each-append (Has (first ++ others)) here behind (each_as (Has first) (Has (first ++ others)) here (λ p has. has_left first others p has) sound.stay)
+            (each_as (Has others) (Has (first ++ others)) behind (λ p has. has_right first others p has) rest.stay);
       }

@@ -11,7 +11,7 @@ use Rattle.trees.specs.Made.{Extends, Has, IsTaken, Took}
 use Rattle.trees.proofs.Counts.{counted_kept, counted_on, counted_same}
 use Rattle.trees.proofs.Laid.{has_left, has_right}
 use Rattle.compact.specs.High.{free_below}
-use Rattle.compact.specs.Moved.{Copies, KeepsCopies, IsPaid}
+use Rattle.compact.specs.Moved.{Copies, KeepsCopies, IsPaid, unmoved}
 use Rattle.compact.specs.Walk.{Move, AreGood, HasRoom, Stepped}
 use Rattle.compact.proofs.Unmoved.{unmoved_less}
 
@@ -59,15 +59,15 @@ module _ {S : Type 0} (g : ground.Ghosts S) where
       }
 
   -- where nothing is taken
-  pub paid_kept : (a b : S) (dense : ℕ) (moves after : Copies) (nodes leaves : List ℕ) → g.used b ≡ g.used a → g.free b ≡ g.free a → KeepsCopies moves after → IsPaid g a b dense moves after nodes leaves
-  paid_kept a b dense moves after nodes leaves used free keeps =
+  pub paid_kept : (a b : S) (dense : ℕ) (moves after : Copies) (nodes leaves : List ℕ) → g.used b ≡ g.used a → g.free b ≡ g.free a → KeepsCopies moves after → unmoved after leaves ≡ unmoved moves leaves → IsPaid g a b dense moves after nodes leaves
+  paid_kept a b dense moves after nodes leaves used free keeps same =
       let pages : g.free b Page ≡ g.free a Page = ap (λ (f : Area → ℕ). f Page) free in
       let units : g.free b Segment ≡ g.free a Segment = ap (λ (f : Area → ℕ). f Segment) free in
       let low : free_below (g.geometry a) (g.used b) dense ≡ free_below (g.geometry a) (g.used a) dense = ap (λ (f : ℕ → Bool). free_below (g.geometry a) f dense) used in
       record {
         of_pages = omega (arith, pages, unmoved_less moves after nodes keeps);
-        of_leaves = omega (arith, units, unmoved_less moves after leaves keeps);
-        of_low = omega (arith, low, unmoved_less moves after leaves keeps);
+        of_leaves = omega (arith, units, same);
+        of_low = omega (arith, low, same);
       }
 
   pub room_later : (move : Move S) (dense : ℕ) (a b : S) (moves after : Copies) → g.leads a b → IsPaid g a b dense moves after move.nodes move.leaves → HasRoom g move dense a moves → HasRoom g move dense b after
@@ -90,19 +90,19 @@ module _ {S : Type 0} (g : ground.Ghosts S) where
         copies = λ p is. absurd (none p is);
         fresh = λ q c is. inl is;
         pairs = good;
-        paid = paid_kept a b dense moves moves move.nodes move.leaves k.used k.free (λ p c is. is);
+        paid = paid_kept a b dense moves moves move.nodes move.leaves k.used k.free (λ p c is. is) refl;
         counts = λ names. counted_kept g a b k;
       }
 
   -- nothing but copies that were given
-  pub step_noted : (move : Move S) (dense : ℕ) (a : S) (moves after : Copies) (was now : List ℕ) → KeepsCopies moves after → ((page : ℕ) (copy : PageNo) → after page ≡ Some copy → (moves page ≡ Some copy) ⊎ Has was page) → AreGood g move dense a after
+  pub step_noted : (move : Move S) (dense : ℕ) (a : S) (moves after : Copies) (was now : List ℕ) → KeepsCopies moves after → unmoved after move.leaves ≡ unmoved moves move.leaves → ((page : ℕ) (copy : PageNo) → after page ≡ Some copy → (moves page ≡ Some copy) ⊎ (Has was page × Has now copy.0)) → AreGood g move dense a after
       → Stepped g move dense a a moves after was now
-  step_noted move dense a moves after was now keeps fresh good = record {
+  step_noted move dense a moves after was now keeps same fresh good = record {
     all = λ p is. absurd (none_taken a p is);
     copies = λ p is. absurd (none_taken a p is);
     fresh = fresh;
     pairs = good;
-    paid = paid_kept a a dense moves after move.nodes move.leaves refl refl keeps;
+    paid = paid_kept a a dense moves after move.nodes move.leaves refl refl keeps same;
     counts = λ names. counted_same g a;
   }
 
@@ -120,9 +120,9 @@ module _ {S : Type 0} (g : ground.Ghosts S) where
     fresh = λ q copy is. elim (y.fresh q copy is) [
       | inl before ↦ elim (x.fresh q copy before) [
         | inl first ↦ inl first
-        | inr has ↦ inr (has_left was more q has)
+        | inr has ↦ inr (has_left was more q has.0, has_left now others copy.0 has.1)
       ]
-      | inr has ↦ inr (has_right was more q has)
+      | inr has ↦ inr (has_right was more q has.0, has_right now others copy.0 has.1)
     ];
     pairs = y.pairs;
     paid = paid_on a b c dense moves mid after move.nodes move.leaves one.leads x.paid y.paid;
@@ -137,7 +137,7 @@ module _ {S : Type 0} (g : ground.Ghosts S) where
     copies = x.copies;
     fresh = λ q copy is. elim (x.fresh q copy is) [
       | inl before ↦ inl before
-      | inr has ↦ inr (wider q has)
+      | inr has ↦ inr (wider q has.0, later copy.0 has.1)
     ];
     pairs = x.pairs;
     paid = x.paid;

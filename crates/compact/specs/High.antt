@@ -33,6 +33,11 @@ abbrev pub high_leaves : Geometry → ℕ → Units → ℕ → ℕ → List ℕ
 high_leaves g dense units zero page = if is_high g dense page then page ∷ [] else []
 high_leaves g dense units (suc l) page = flat_map (high_leaves g dense units l) (named_on units page)
 
+-- the other leaves of a tree, each as often as it is named
+abbrev pub low_leaves : Geometry → ℕ → Units → ℕ → ℕ → List ℕ
+low_leaves g dense units zero page = if is_high g dense page then [] else page ∷ []
+low_leaves g dense units (suc l) page = flat_map (low_leaves g dense units l) (named_on units page)
+
 -- ---- the same of a root, which may have no tree
 
 abbrev pub root_nodes_above : Geometry → ℕ → Units → Root → List ℕ
@@ -40,6 +45,9 @@ root_nodes_above g dense units root = flat_map (nodes_above g dense units root.h
 
 abbrev pub root_high_leaves : Geometry → ℕ → Units → Root → List ℕ
 root_high_leaves g dense units root = flat_map (high_leaves g dense units root.height) (page_here root.page)
+
+abbrev pub root_low_leaves : Geometry → ℕ → Units → Root → List ℕ
+root_low_leaves g dense units root = flat_map (low_leaves g dense units root.height) (page_here root.page)
 
 -- ---- how many there are
 

@@ -10,7 +10,7 @@ use Rattle.trees.specs.Counted.{Counted, NamesPairs}
 use Rattle.trees.specs.Damage.{IsWhole}
 use Rattle.trees.specs.Made.{AreUsed, Has, IsTaken}
 use Rattle.trees.specs.Trees.{Units, IsNamed, HasSize, bytes_on, shape_on, units_on, RootSpells, root_shape, root_units}
-use Rattle.compact.specs.High.{is_high, has_high, root_nodes_above, root_high_leaves, each_once, free_below}
+use Rattle.compact.specs.High.{is_high, has_high, low_leaves, root_nodes_above, root_high_leaves, root_low_leaves, each_once, free_below}
 
 -- the copies of units and nodes, by the numbers that name them
 abbrev pub Copies : Type 0
@@ -27,7 +27,7 @@ AreLow g dense units = AllByRecursion (λ p. is_high g dense p ≡ false) units
 -- ---- sound pairs
 
 -- The tree of a level at a page has a copy in used units: of the same level, bytes and shape, with no high unit. A leaf has its copy in all its bytes. What
--- leads to no high unit is its own copy.
+-- leads to no high unit is its own copy, and each leaf that isn't high is a leaf of the copy too.
 pub record IsSoundPair (g : Geometry) (units : Units) (in_use : ℕ → Bool) (dense level page copy : ℕ) : Type 0 where
   pub named : IsNamed g units level copy
   pub sized : (n : ℕ) → HasSize g units level page n → HasSize g units level copy n
@@ -36,6 +36,7 @@ pub record IsSoundPair (g : Geometry) (units : Units) (in_use : ℕ → Bool) (d
   pub used : AreUsed in_use (units_on units level copy)
   pub low : AreLow g dense (units_on units level copy)
   pub still : has_high g dense units level page ≡ false → copy ≡ page
+  pub stay : AllByRecursion (Has (units_on units level copy)) (low_leaves g dense units level page)
 
 -- each copy of a unit of these is sound
 abbrev pub AreSound : {S : Type 0} → ground.Ghosts S → S → ℕ → Copies → List ℕ → Type 0
@@ -90,24 +91,28 @@ IsOwn g old new moves units unit = IsTaken g old new unit ⊎ Has units unit ⊎
 abbrev pub IsCopyOf : List ℕ → Copies → ℕ → Type 0
 IsCopyOf units moves unit = (page : ℕ) × (copy : PageNo) × Has units page × (moves page ≡ Some copy) × (copy.0 ≡ unit)
 
--- So many free units of each area, and so many free low ones, are left at least, where at most what was still to copy was taken.
+-- A page was taken at most for each of the nodes that got its copy, and a free unit that is low for each of the leaves that got one, and no other.
 pub record IsPaid {S : Type 0} (g : ground.Ghosts S) (old new : S) (dense : ℕ) (moves after : Copies) (nodes leaves : List ℕ) : Type 0 where
   pub of_pages : g.free old Page + unmoved after nodes ≤ g.free new Page + unmoved moves nodes
-  pub of_leaves : g.free old Segment + unmoved after leaves ≤ g.free new Segment + unmoved moves leaves
-  pub of_low : free_below (g.geometry old) (g.used old) dense + unmoved after leaves ≤ free_below (g.geometry old) (g.used new) dense + unmoved moves leaves
+  pub of_leaves : g.free old Segment + unmoved after leaves ≡ g.free new Segment + unmoved moves leaves
+  pub of_low : free_below (g.geometry old) (g.used old) dense + unmoved after leaves ≡ free_below (g.geometry old) (g.used new) dense + unmoved moves leaves
 
--- The tree of a root was moved: the new root spells the same bytes in the same shape, over used units that are none of them high. What was taken are copies,
--- and units of the new tree; its others are units of the old tree, or of copies that units of the old tree had. Each new copy is one of a unit of the old tree,
--- and sound. What new nodes name is counted.
+-- The tree of a root was moved: the new root spells the same bytes in the same shape, over used units that are none of them high. The leaves that weren't high
+-- stay, and for each other one that had no copy one low unit was taken. What was taken are copies, and units of the new tree; its others are units of the old
+-- tree, or of copies that units of the old tree had, and so are those of the copies. Each new copy is one of a unit of the old tree, stands in the new one, and
+-- is sound. What new nodes name is counted.
 pub record IsMoved {S : Type 0} (g : ground.Ghosts S) (old new : S) (dense : ℕ) (moves after : Copies) (root made : Root) : Type 0 where
   pub spells : (bytes : List ℕ) → RootSpells (g.geometry old) (g.unit old) root bytes → RootSpells (g.geometry new) (g.unit new) made bytes
   pub shape : root_shape (g.unit new) made ≡ root_shape (g.unit old) root
   pub used : AreUsed (g.used new) (root_units (g.unit new) made)
   pub low : AreLow (g.geometry new) dense (root_units (g.unit new) made)
+  pub stay : AllByRecursion (Has (root_units (g.unit new) made)) (root_low_leaves (g.geometry old) dense (g.unit old) root)
   pub own : AllByRecursion (IsOwn g old new moves (root_units (g.unit old) root)) (root_units (g.unit new) made)
   pub all : (p : ℕ) → IsTaken g old new p → Has (root_units (g.unit new) made) p
   pub copies : (p : ℕ) → IsTaken g old new p → IsCopyOf (root_units (g.unit old) root) after p
-  pub fresh : (page : ℕ) (copy : PageNo) → after page ≡ Some copy → (moves page ≡ Some copy) ⊎ Has (root_units (g.unit old) root) page
+  pub fresh : (page : ℕ) (copy : PageNo) → after page ≡ Some copy → (moves page ≡ Some copy) ⊎ (Has (root_units (g.unit old) root) page × Has (root_units (g.unit new) made) copy.0)
+  pub of_copies : (level page : ℕ) (copy : PageNo) → Has (root_units (g.unit old) root) page → after page ≡ Some copy → IsNamed (g.geometry new) (g.unit new) level page
+      → AllByRecursion (IsOwn g old new moves (root_units (g.unit old) root)) (units_on (g.unit new) level copy.0)
   pub sound : AreSound g new dense after (root_units (g.unit old) root)
   pub paid : IsPaid g old new dense moves after (each_once (root_nodes_above (g.geometry old) dense (g.unit old) root)) (each_once (root_high_leaves (g.geometry old) dense (g.unit old) root))
   pub counts : NamesPairs g → Counted g old new

@@ -1,11 +1,12 @@
 -- What the walk of a tree that is moved knows of the trees in it.
 use Rattle.std.specs.Prelude.{◌≡◌, ◌⊎◌, ℕ, zero, suc, ◌≤◌, Bool, true, false, List, [], ◌∷◌, length, take, Some}
 use Rattle.std.specs.List.{AllByRecursion, AllZip}
+use Rattle.ex_base.specs.declared.geometry.Geometry.{Geometry}
 use Rattle.ex_base.specs.declared.ground.Ground as ground
 use Rattle.ex_base.specs.declared.names.Area.TheVariants.{Page, Segment}
 use Rattle.ex_base.specs.declared.names.PageNo.{PageNo}
 use Rattle.ex_base.specs.Area.{NamesLeaf}
-use Rattle.ex_base.specs.Ports.{IsLowest}
+use Rattle.ex_base.specs.Ports.{IsLowest, times}
 use Rattle.ex_base.specs.Sizes.{leaf_bytes}
 use Rattle.trees.specs.Built.{Built}
 use Rattle.trees.specs.Counted.{Counted, NamesPairs}
@@ -25,6 +26,11 @@ pub record Move (S : Type 0) : Type 0 where
   pub units : List ℕ
   pub nodes : List ℕ
   pub leaves : List ℕ
+
+-- leaves, each of them once
+pub record AreLeaves (g : Geometry) (leaves : List ℕ) : Type 0 where
+  pub named : AllByRecursion (NamesLeaf g) leaves
+  pub once : (p : ℕ) → times p leaves ≤ 1
 
 -- ---- what is moved
 
@@ -67,6 +73,7 @@ pub record CanMove {S : Type 0} (g : ground.Ghosts S) (move : Move S) (dense : �
   pub since : Extends g move.start s
   pub trees : AllByRecursion (IsTreeOf g move dense s l least) row
   pub pairs : AreGood g move dense s moves
+  pub leaves : AreLeaves (g.geometry s) move.leaves
   pub room : HasRoom g move dense s moves
 
 -- ---- what comes of it
@@ -75,7 +82,7 @@ pub record CanMove {S : Type 0} (g : ground.Ghosts S) (move : Move S) (dense : �
 pub record Stepped {S : Type 0} (g : ground.Ghosts S) (move : Move S) (dense : ℕ) (old new : S) (moves after : Copies) (was now : List ℕ) : Type 0 where
   pub all : (p : ℕ) → IsTaken g old new p → Has now p
   pub copies : (p : ℕ) → IsTaken g old new p → IsCopyOf move.units after p
-  pub fresh : (page : ℕ) (copy : PageNo) → after page ≡ Some copy → (moves page ≡ Some copy) ⊎ Has was page
+  pub fresh : (page : ℕ) (copy : PageNo) → after page ≡ Some copy → (moves page ≡ Some copy) ⊎ (Has was page × Has now copy.0)
   pub pairs : AreGood g move dense new after
   pub paid : IsPaid g old new dense moves after move.nodes move.leaves
   pub counts : NamesPairs g → Counted g old new

@@ -1,0 +1,3 @@
+pub mod Installing
+pub mod LowUnits
+pub mod Sharing
