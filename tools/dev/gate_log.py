@@ -12,10 +12,10 @@ What no log measured, since the run kept an earlier proof, is taken from the tab
 there, with a star. Where that has none either, the field says `kept`. So a table without stars
 comes from a run of `tools/dev/gate --anew`, or from the logs of all parts of one.
 
-The seconds of a table are those of one machine: its measure is what the proof of `ex_base` takes.
-Where figures of the table that stands there stay, and with --scaled, all that the logs measured is
-divided by how many times as long as there that proof took in them. Logs without it, which kept it,
-are taken as they are.
+The seconds of a table are those of one machine. Where figures of the table that stands there stay,
+and with --scaled, all that the logs measured is divided by how many times as long as there the
+proofs that both have took in them, by the middle one of these ratios: one proof tells little where
+other work ran beside some. Logs that share no proof with the table are taken as they are.
 """
 from __future__ import annotations
 
@@ -23,6 +23,7 @@ import argparse
 import re
 import sys
 from pathlib import Path
+from statistics import median
 from typing import Iterator, NamedTuple, Optional
 
 sys.dont_write_bytecode = True
@@ -39,8 +40,8 @@ DEAR = 5
 
 # What a figure is of: a kind of work, and a crate.
 Key = tuple[str, str]
-# By which machines are compared: the lowest crate, which hardly changes.
-MEASURE: Key = ("proof", "ex_base")
+# Proofs by which machines are compared take so many seconds at least.
+TELLING = 10
 # From how many times as long on a machine is told to be of another speed.
 OTHER_SPEED = 1.05
 
@@ -115,15 +116,10 @@ def earlier() -> dict[Key, int]:
 
 
 class Speed(NamedTuple):
-    """How long the proof of the measure took in the logs, and in the table that stands there."""
+    """How many times as long proofs took in the logs as in the table, and of how many that is."""
 
-    taken: float
-    before: float
-
-    @property
-    def factor(self) -> float:
-        """How many times as long all took in the logs."""
-        return self.taken / self.before
+    factor: float
+    proofs: int
 
 
 class Table:
@@ -147,23 +143,22 @@ class Table:
     def _scale(self, always: bool) -> Optional[Speed]:
         """Brings what the logs measured into the measure of the table that stands there, where
         some of its figures stay, and gives by what; none where that isn't known or wanted."""
-        taken, before = self.seconds.get(MEASURE, 0.0), self.before.get(MEASURE, 0)
+        times = [it / self.before[key] for key, it in self.seconds.items()
+                 if key[0] == "proof" and self.before.get(key, 0) >= TELLING]
         stays = any(key in self.before and key not in self.seconds and has_work(*key)
                     for key in ((kind, crate) for crate in named_crates() for kind in KINDS))
-        if not taken or not before or not (always or stays):
+        if not times or not (always or stays):
             return None
-        speed = Speed(taken, before)
+        speed = Speed(median(times), len(times))
         self.seconds = {key: it / speed.factor for key, it in self.seconds.items()}
         return speed
 
     def measure(self) -> Iterator[str]:
-        """The machine whose seconds these are."""
-        seconds = self.seconds.get(MEASURE) or self.before.get(MEASURE)
-        if seconds:
-            yield f"The seconds are those of a machine that proves `ex_base` in {seconds:.0f}."
+        """By what the seconds of another machine were divided."""
         if self.speed and not 1 / OTHER_SPEED < self.speed.factor < OTHER_SPEED:
-            yield (f"What the last run measured was divided by {self.speed.factor:.2f}: there that "
-                   f"proof took {self.speed.taken:.0f}.")
+            yield (f"What the last run measured was divided by {self.speed.factor:.2f}: so many "
+                   f"times as long as in the table before its proofs took in the middle, of "
+                   f"{self.speed.proofs} that both have.")
 
     def _field(self, kind: str, crate: str) -> str:
         """What stands of a kind of work of a crate."""

@@ -54,8 +54,8 @@ class GateTest(InToy):
         measured = LOG.replace("gate: work run", "gate: work proof ex_base 112.0\ngate: work run")
         own = ["| `ex_base` | 112 | no tests | no edits |", "| `low` | 13 | no tests | kept (1) |"]
         scaled = ["| `ex_base` | 56 | no tests | no edits |", "| `low` | 6 | no tests | kept (1) |"]
-        told = ("The seconds are those of a machine that proves `ex_base` in 56.\nWhat the last "
-                "run measured was divided by 2.00: there that proof took 112.")
+        told = ("What the last run measured was divided by 2.00: so many times as long as in the "
+                "table before its proofs took in the middle, of 1 that both have.")
         page = PAGE.replace("| `low`", "| `ex_base` | 56 | no tests | no edits |\n| `low`")
         self.write("crates.txt", f"ex_base:\n{self.text('crates.txt')}")
         for before, words, rows, is_told in (
