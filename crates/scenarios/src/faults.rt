@@ -1,8 +1,9 @@
 //! Loops over the calls of a run: each fails in turn, lies or is the last one. Each outcome is told once, by the kind of the call that it came at.
-use crate::hosts::{Asked, Kind, Plan, Watched, run_on};
+use crate::hosts::{Kind, Plan, Watched, run_on};
 use crate::images::Way;
-use crate::outcomes::{last_kept, push_sent, push_status, status_text};
+use crate::outcomes::{last_kept, push_status, status_text};
 use exsm_run::Status;
+use scenario_values::{Asked, Telling, push_sent, words_of};
 use scenario_words::Mode;
 use std::alloc::{AllocError, Global};
 
@@ -77,6 +78,14 @@ fn add_once(rows: &mut Vec<Vec<u8>>, row: Vec<u8>) -> Result<(), AllocError> {
     Ok(rows.push(row)?)
 }
 
+// Notes what an image shows, where it isn't this.
+fn add_other(rows: &mut Vec<Vec<u8>>, row: Vec<u8>, shown: &[u8]) -> Result<(), AllocError> {
+    if row.as_slice() == shown {
+        return Ok(());
+    }
+    add_once(rows, row)
+}
+
 fn add_outcome(
     outcomes: &mut Vec<Outcome>,
     kind: Option<Kind>,
@@ -115,8 +124,8 @@ fn push_outcomes(
 }
 
 fn push_by_kind(out: &mut Vec<u8>, front: &[u8], outcomes: &[Outcome]) -> Result<(), AllocError> {
-    for kind in Kind::ALL {
-        push_outcomes(out, front, outcomes, Some(kind))?;
+    for kind in &Kind::ALL {
+        push_outcomes(out, front, outcomes, Some(*kind))?;
     }
     push_outcomes(out, front, outcomes, None)
 }
@@ -144,12 +153,34 @@ impl Found {
     }
 
     // What the image of that mark shows, where it was met before.
-    fn shown_of(&self, mark: u64) -> Option<&[u8]> {
-        self.met
-            .iter()
-            .find(|seen| seen.mark == mark)
-            .map(|seen| seen.shown.as_slice())
+    fn shown_of(&self, alloc: Global, mark: u64) -> Result<Option<Vec<u8>>, AllocError> {
+        for seen in &self.met {
+            if seen.mark == mark {
+                return Ok(Some(seen.shown.to_vec(alloc)?));
+            }
+        }
+        Ok(None)
     }
+}
+
+// Whether an image of that mark was compared with this.
+fn was_compared(left: &[Seen], mark: u64, shown: &[u8]) -> bool {
+    for seen in left {
+        if seen.mark == mark && seen.shown.as_slice() == shown {
+            return true;
+        }
+    }
+    false
+}
+
+fn add_seen(
+    alloc: Global,
+    seen: &mut Vec<Seen>,
+    mark: u64,
+    shown: &[u8],
+) -> Result<(), AllocError> {
+    let shown = shown.to_vec(alloc)?;
+    Ok(seen.push(Seen { mark, shown })?)
 }
 
 impl Trial<'_> {
@@ -161,22 +192,27 @@ impl Trial<'_> {
         self.run(asked, disk, Plan::whole(self.pieces))
     }
 
+    // Adds what a look tells of an image.
+    fn push_look(
+        &self,
+        shown: &mut Vec<u8>,
+        asked: &Asked,
+        image: &[u8],
+    ) -> Result<(), AllocError> {
+        if !shown.is_empty() {
+            shown.extend_from_slice(b" / ")?;
+        }
+        let (status, watched) = self.whole(asked, image)?;
+        let sent = watched.host().sent_bytes();
+        push_sent(self.alloc, shown, sent, Telling::ALL)?;
+        push_status(self.alloc, shown, status)
+    }
+
     // What the looks tell of an image.
     fn look_at(&self, image: &[u8]) -> Result<Vec<u8>, AllocError> {
         let mut shown = Vec::new(self.alloc);
         for asked in self.looks {
-            if !shown.is_empty() {
-                shown.extend_from_slice(b" / ")?;
-            }
-            let (status, watched) = self.whole(asked, image)?;
-            push_sent(
-                self.alloc,
-                &mut shown,
-                watched.host().sent_bytes(),
-                None,
-                false,
-            )?;
-            push_status(self.alloc, &mut shown, status)?;
+            self.push_look(&mut shown, asked, image)?;
         }
         Ok(shown)
     }
@@ -213,7 +249,7 @@ impl Trial<'_> {
         if whole.starts_with(sent) {
             text.extend_from_slice(b"a front; ")?;
         } else {
-            push_sent(self.alloc, &mut text, sent, None, false)?;
+            push_sent(self.alloc, &mut text, sent, Telling::ALL)?;
             text.extend_from_slice(b"; ")?;
         }
         if watched.host().calls() > call {
@@ -226,7 +262,7 @@ impl Trial<'_> {
     // Stops an opening of an image after each call, and looks at what that leaves.
     fn reopen(&self, found: &mut Found, image: &[u8], shown: &[u8]) -> Result<(), AllocError> {
         let opening = Asked {
-            words: crate::hosts::words_of(self.alloc, "run v")?,
+            words: words_of(self.alloc, "run v")?,
             source: Vec::new(self.alloc),
         };
         let (_, watched) = self.whole(&opening, image)?;
@@ -248,6 +284,22 @@ impl Trial<'_> {
         }
     }
 
+    // Looks at an image, and notes what it shows where it isn't this.
+    fn compare_image(
+        &self,
+        left: &mut Vec<Seen>,
+        others: &mut Vec<Vec<u8>>,
+        image: &[u8],
+        shown: &[u8],
+    ) -> Result<(), AllocError> {
+        let mark = mark_of(image);
+        if was_compared(left, mark, shown) {
+            return Ok(());
+        }
+        add_other(others, self.look_at(image)?, shown)?;
+        add_seen(self.alloc, left, mark, shown)
+    }
+
     // Looks at the images after that call, and notes what they show where it isn't this.
     fn compare(
         &self,
@@ -259,19 +311,25 @@ impl Trial<'_> {
     ) -> Result<(), AllocError> {
         for way in self.ways.iter().take(self.ways_at(watched, call)) {
             let image = way.image(self.alloc, watched.host(), call)?;
-            let mark = mark_of(&image);
-            let is_seen = left.iter().any(|other| other.mark == mark
-                && other.shown.as_slice() == shown);
-            if !is_seen {
-                let now = self.look_at(&image)?;
-                if now.as_slice() != shown {
-                    add_once(others, now)?;
-                }
-                let shown = shown.to_vec(self.alloc)?;
-                left.push(Seen { mark, shown })?;
-            }
+            self.compare_image(left, others, &image, shown)?;
         }
         Ok(())
+    }
+
+    // Runs a command line on an image with that call failing.
+    fn go_through_once(
+        &self,
+        found: &mut Found,
+        asked: &Asked,
+        image: &[u8],
+        all: &Watched,
+        call: u64,
+        shown: &[u8],
+    ) -> Result<(), AllocError> {
+        let (status, watched) = self.run(asked, image, self.plan_at(Mode::Fails, call))?;
+        let text = self.outcome_of(all.host().sent_bytes(), status, &watched, call)?;
+        add_outcome(&mut found.through, watched.kind_of(call), text)?;
+        self.compare(&mut found.left, &mut found.damaged, &watched, call, shown)
     }
 
     // Runs a command line on an image with each call failing.
@@ -283,39 +341,38 @@ impl Trial<'_> {
         shown: &[u8],
     ) -> Result<(), AllocError> {
         let (_, all) = self.whole(asked, image)?;
-        let whole = all.host().sent_bytes();
         for call in 1..=all.host().calls() {
-            let plan = self.plan_at(Mode::Fails, call);
-            let (status, watched) = self.run(asked, image, plan)?;
-            let text = self.outcome_of(whole, status, &watched, call)?;
-            add_outcome(&mut found.through, watched.kind_of(call), text)?;
-            self.compare(&mut found.left, &mut found.damaged, &watched, call, shown)?;
+            self.go_through_once(found, asked, image, &all, call, shown)?;
         }
         Ok(())
     }
 
-    // Looks at an image that is met, and does with it what the loop asks for.
-    fn meet(&self, found: &mut Found, image: &[u8], kept: &[u8]) -> Result<(), AllocError> {
+    // Does with an image what the loop asks for.
+    fn follow(&self, found: &mut Found, image: &[u8], shown: &[u8]) -> Result<(), AllocError> {
+        if self.reopened {
+            self.reopen(found, image, shown)?;
+        }
+        for asked in self.through {
+            self.go_through(found, asked, image, shown)?;
+        }
+        Ok(())
+    }
+
+    // What an image shows, with which the loop does what it asks for where it wasn't met before.
+    fn shown_by(&self, found: &mut Found, image: &[u8]) -> Result<Vec<u8>, AllocError> {
         let mark = mark_of(image);
-        let known = match found.shown_of(mark) {
-            Some(shown) => Some(shown.to_vec(self.alloc)?),
-            None => None,
-        };
-        let shown = match known {
-            Some(shown) => shown,
-            None => {
-                let shown = self.look_at(image)?;
-                if self.reopened {
-                    self.reopen(found, image, &shown)?;
-                }
-                for asked in self.through {
-                    self.go_through(found, asked, image, &shown)?;
-                }
-                let copy = shown.to_vec(self.alloc)?;
-                found.met.push(Seen { mark, shown: copy })?;
-                shown
-            }
-        };
+        if let Some(shown) = found.shown_of(self.alloc, mark)? {
+            return Ok(shown);
+        }
+        let shown = self.look_at(image)?;
+        self.follow(found, image, &shown)?;
+        add_seen(self.alloc, &mut found.met, mark, &shown)?;
+        Ok(shown)
+    }
+
+    // Looks at an image that is met, and notes what it shows.
+    fn meet(&self, found: &mut Found, image: &[u8], kept: &[u8]) -> Result<(), AllocError> {
+        let shown = self.shown_by(found, image)?;
         let mut row = kept.to_vec(self.alloc)?;
         row.extend_from_slice(b": ")?;
         row.extend_from_slice(&shown)?;

@@ -4,9 +4,7 @@ ghost use Rattle.memory_host.specs.Host.{means, is_world_of};
 use disk_model::{Disk, Failed, Host, Sink, Source, World};
 use exsm_run::{Status, run};
 use memory_host::MemoryHost;
-use scenario_words::Command;
 use std::alloc::{AllocError, Global};
-use std::fmt::Write;
 
 /// What a call asks of the outside.
 #[derive(Clone, Copy, Debug, PartialEq, Eq)]
@@ -109,13 +107,6 @@ impl Sink for Watched {
 
 impl Host for Watched {}
 
-/// The words of a command line, and the bytes of its source.
-#[derive(Drop)]
-pub(crate) struct Asked {
-    pub(crate) words: Vec<String>,
-    pub(crate) source: Vec<u8>,
-}
-
 /// What becomes of the calls of a run.
 #[derive(Clone, Copy)]
 pub(crate) struct Plan {
@@ -137,74 +128,12 @@ impl Plan {
     }
 }
 
-/// What is written for an empty word or line.
-const EMPTY: &str = "''";
-
-/// What parts lines.
-const BETWEEN: &str = " / ";
-
-/// What stands behind a last line without a line feed.
-const UNENDED: char = '~';
-
-/// What stands for the number of a round.
-const ROUND: char = '%';
-
-/// The words of a line, `''` an empty one.
-pub(crate) fn words_of(alloc: Global, line: &str) -> Result<Vec<String>, AllocError> {
-    let mut words = Vec::new(alloc);
-    for word in line.split_whitespace() {
-        let text = if word == EMPTY { "" } else { word };
-        words.push(String::from_str(alloc, text)?)?;
+// The number, where there is one.
+fn numbers_in(number: &Option<u64>) -> &[u64] {
+    match number {
+        Some(number) => std::slice::from_ref(number),
+        None => &[],
     }
-    Ok(words)
-}
-
-// Adds a line, in which `%` is the number of a round.
-fn add_line(text: &mut String, line: &str, round: u64) -> Result<(), AllocError> {
-    for letter in line.chars() {
-        if letter == ROUND {
-            write!(text, "{round}")?;
-        } else {
-            text.push(letter)?;
-        }
-    }
-    Ok(())
-}
-
-/// The bytes of lines with ` / ` between them: each ends with a line feed, but a last one with a `~`. `''` is an empty line, and `%` the number of a round.
-pub(crate) fn lines_of(alloc: Global, lines: &str, round: u64) -> Result<Vec<u8>, AllocError> {
-    let mut text = String::new(alloc);
-    if lines.is_empty() {
-        return Ok(text.into_bytes());
-    }
-    for line in lines.split(BETWEEN) {
-        match line.strip_suffix(UNENDED) {
-            Some(unended) => add_line(&mut text, unended, round)?,
-            None => {
-                if line != EMPTY {
-                    add_line(&mut text, line, round)?;
-                }
-                text.push('\n')?;
-            }
-        }
-    }
-    Ok(text.into_bytes())
-}
-
-/// A command line as it is run.
-pub(crate) fn asked_of(alloc: Global, command: Command<'_>) -> Result<Asked, AllocError> {
-    Ok(Asked {
-        words: words_of(alloc, command.words)?,
-        source: lines_of(alloc, command.lines, 0)?,
-    })
-}
-
-fn list_of(alloc: Global, number: Option<u64>) -> Result<Vec<u64>, AllocError> {
-    let mut list = Vec::new(alloc);
-    if let Some(number) = number {
-        list.push(number)?;
-    }
-    Ok(list)
 }
 
 /// Runs a command line on a disk, and says how it ended.
@@ -215,10 +144,10 @@ pub(crate) fn run_on(
     source: &[u8],
     plan: Plan,
 ) -> Result<(Status, Watched), AllocError> {
-    let failing = list_of(alloc, plan.fails)?;
-    let lying = list_of(alloc, plan.lies)?;
+    let failing = numbers_in(&plan.fails);
+    let lying = numbers_in(&plan.lies);
     let pieces = plan.pieces.max(1);
-    let host = MemoryHost::make(alloc, disk, source, pieces, &failing, &lying, plan.stops)?;
+    let host = MemoryHost::make(alloc, disk, source, pieces, failing, lying, plan.stops)?;
     let mut watched = Watched {
         host,
         kinds: Vec::new(alloc),

@@ -1,8 +1,8 @@
 //! Images that a stop may leave.
 ghost use Rattle.std.specs.Prelude.{◌≡◌, length};
 
-use crate::values::Trouble;
 use memory_host::{Choice, MemoryHost};
+use scenario_values::Trouble;
 use scenario_words::Wrong;
 use std::alloc::{AllocError, Global};
 

@@ -6,7 +6,6 @@ mod hosts;
 mod images;
 mod outcomes;
 mod scenes;
-mod values;
 
 use std::io;
 use std::io::Write;

@@ -1,11 +1,11 @@
 //! What a line of scenarios comes to.
 use crate::faults::Trial;
-use crate::hosts::{Asked, Plan, asked_of, run_on, words_of};
+use crate::hosts::{Plan, Watched, run_on};
 use crate::images::{Way, ways_of};
-use crate::outcomes::{push_sent, push_status, tally_of};
-use crate::values::{Trouble, Values};
-use exsm_run::file_of;
+use crate::outcomes::{push_status, tally_of};
+use exsm_run::{Status, file_of};
 use memory_host::MemoryHost;
+use scenario_values::{Asked, Telling, Trouble, Values, asked_of, push_sent, words_of};
 use scenario_words::{Command, Mode, Options, Place, Statement, statement_of};
 use std::alloc::{AllocError, Global};
 
@@ -43,6 +43,37 @@ impl Scenes {
         })
     }
 
+    // Runs a command line on a disk.
+    fn ran<'a>(
+        &self,
+        name: &'a str,
+        options: Options<'a>,
+        command: Command<'a>,
+    ) -> Result<(Status, Watched), Trouble<'a>> {
+        let asked = self.asked(options, command)?;
+        let plan = self.plan(options)?;
+        let disk = &self.values.value(name)?.bytes;
+        Ok(run_on(self.alloc, disk, &asked.words, &asked.source, plan)?)
+    }
+
+    // Tells of a run what the options say.
+    fn push_ran(
+        &self,
+        out: &mut Vec<u8>,
+        options: Options<'_>,
+        most: Option<u64>,
+        status: Status,
+        host: &MemoryHost,
+    ) -> Result<(), AllocError> {
+        let telling = Telling {
+            last: options.last,
+            brief: options.brief,
+        };
+        push_sent(self.alloc, out, host.sent_bytes(), telling)?;
+        push_status(self.alloc, out, status)?;
+        self.push_bound(out, most, host.calls())
+    }
+
     // Runs a command line, and tells and keeps of it what the options say.
     fn on<'a>(
         &mut self,
@@ -51,31 +82,12 @@ impl Scenes {
         options: Options<'a>,
         command: Command<'a>,
     ) -> Result<(), Trouble<'a>> {
-        let asked = self.asked(options, command)?;
-        let plan = self.plan(options)?;
         let most = self.values.number_if(options.within)?;
         let ways = ways_of(self.alloc, options.by)?;
-        let value = self.values.value(name)?;
-        let page = value.page;
-        let (status, watched) = run_on(
-            self.alloc,
-            &value.bytes,
-            &asked.words,
-            &asked.source,
-            plan,
-        )?;
-        let host = watched.host();
-        let calls = host.calls();
-        push_sent(
-            self.alloc,
-            out,
-            host.sent_bytes(),
-            options.last,
-            options.brief,
-        )?;
-        push_status(self.alloc, out, status)?;
-        self.push_bound(out, most, calls)?;
-        Ok(self.keep(options, ways.first(), page, host)?)
+        let page = self.values.value(name)?.page;
+        let (status, watched) = self.ran(name, options, command)?;
+        self.push_ran(out, options, most, status, watched.host())?;
+        Ok(self.keep(options, ways.first(), page, watched.host())?)
     }
 
     // Keeps of a run what the options say.

@@ -1,11 +1,11 @@
 //! What names stand for: bytes of disks and texts, numbers of calls, and what is asked of an image.
-use crate::hosts::{Asked, asked_of, lines_of};
+use crate::asked::{Asked, asked_of, lines_of};
 use scenario_words::{Command, Place, Wrong};
 use std::alloc::{AllocError, AllocFailed, Global};
 
 /// Why a line can't be done.
 #[derive(Clone, Copy)]
-pub(crate) enum Trouble<'a> {
+pub enum Trouble<'a> {
     /// A word doesn't fit.
     Wrong(Wrong<'a>),
     /// No memory is there.
@@ -32,10 +32,10 @@ impl<T: Drop> From<AllocFailed<T>> for Trouble<'_> {
 
 /// Bytes with a name, in pages of a size.
 #[derive(Drop)]
-pub(crate) struct Value {
+pub struct Value {
     name: String,
-    pub(crate) bytes: Vec<u8>,
-    pub(crate) page: usize,
+    pub bytes: Vec<u8>,
+    pub page: usize,
 }
 
 /// A number with a name.
@@ -47,14 +47,14 @@ struct Mark {
 
 /// Command lines with a name.
 #[derive(Drop)]
-pub(crate) struct Look {
+struct Look {
     name: String,
-    pub(crate) asked: Vec<Asked>,
+    asked: Vec<Asked>,
 }
 
 /// All that has a name.
 #[derive(Drop)]
-pub(crate) struct Values {
+pub struct Values {
     alloc: Global,
     values: Vec<Value>,
     marks: Vec<Mark>,
@@ -86,7 +86,7 @@ impl Value {
     }
 
     /// The bytes from a place on, at most so many.
-    pub(crate) fn part(&self, place: Place, count: usize) -> &[u8] {
+    pub fn part(&self, place: Place, count: usize) -> &[u8] {
         let at = self.at(place).min(self.bytes.len());
         let rest = &self.bytes[at..];
         &rest[..count.min(rest.len())]
@@ -95,7 +95,7 @@ impl Value {
 
 impl Values {
     /// None at first.
-    pub(crate) fn new(alloc: Global) -> Values {
+    pub fn new(alloc: Global) -> Values {
         Values {
             alloc,
             values: Vec::new(alloc),
@@ -113,17 +113,12 @@ impl Values {
     }
 
     /// The value of that name.
-    pub(crate) fn value<'a>(&self, name: &'a str) -> Result<&Value, Wrong<'a>> {
+    pub fn value<'a>(&self, name: &'a str) -> Result<&Value, Wrong<'a>> {
         self.values.get(self.index_of(name)).ok_or(Wrong(name))
     }
 
     /// Gives bytes a name.
-    pub(crate) fn keep(
-        &mut self,
-        name: &str,
-        bytes: Vec<u8>,
-        page: usize,
-    ) -> Result<(), AllocError> {
+    pub fn keep(&mut self, name: &str, bytes: Vec<u8>, page: usize) -> Result<(), AllocError> {
         let index = self.index_of(name);
         let value = Value {
             name: String::from_str(self.alloc, name)?,
@@ -138,7 +133,7 @@ impl Values {
     }
 
     /// Gives a copy of bytes a name.
-    pub(crate) fn copy<'a>(&mut self, name: &str, of: &'a str) -> Result<(), Trouble<'a>> {
+    pub fn copy<'a>(&mut self, name: &str, of: &'a str) -> Result<(), Trouble<'a>> {
         let value = self.value(of)?;
         let bytes = value.bytes.to_vec(self.alloc)?;
         let page = value.page;
@@ -146,7 +141,7 @@ impl Values {
     }
 
     /// Writes bytes over those from a place on.
-    pub(crate) fn set<'a>(
+    pub fn set<'a>(
         &mut self,
         name: &'a str,
         place: Place,
@@ -165,7 +160,7 @@ impl Values {
     }
 
     /// Keeps the first bytes of a value, so many.
-    pub(crate) fn cut<'a>(&mut self, name: &'a str, count: usize) -> Result<(), Wrong<'a>> {
+    pub fn cut<'a>(&mut self, name: &'a str, count: usize) -> Result<(), Wrong<'a>> {
         let index = self.index_of(name);
         match self.values.get_mut(index) {
             Some(value) => {
@@ -189,12 +184,7 @@ impl Values {
     }
 
     /// Adds lines to a text so many times; `%` stands in them for the number of the round.
-    pub(crate) fn add_lines(
-        &mut self,
-        name: &str,
-        times: u64,
-        lines: &str,
-    ) -> Result<(), AllocError> {
+    pub fn add_lines(&mut self, name: &str, times: u64, lines: &str) -> Result<(), AllocError> {
         for round in 0..times {
             let text = lines_of(self.alloc, lines, round)?;
             self.add(name, &text)?;
@@ -203,7 +193,7 @@ impl Values {
     }
 
     /// Adds bytes to a text so many times.
-    pub(crate) fn add_bytes<'a>(
+    pub fn add_bytes<'a>(
         &mut self,
         name: &str,
         times: u64,
@@ -218,7 +208,7 @@ impl Values {
     }
 
     /// Gives a number a name.
-    pub(crate) fn mark(&mut self, name: &str, number: u64) -> Result<(), AllocError> {
+    pub fn mark(&mut self, name: &str, number: u64) -> Result<(), AllocError> {
         let name = String::from_str(self.alloc, name)?;
         Ok(self.marks.push(Mark { name, number })?)
     }
@@ -243,7 +233,7 @@ impl Values {
     }
 
     /// The number that a word says: digits, a name, or a name and a number that is added to it or taken from it.
-    pub(crate) fn number<'a>(&self, word: &'a str) -> Result<u64, Wrong<'a>> {
+    pub fn number<'a>(&self, word: &'a str) -> Result<u64, Wrong<'a>> {
         if let Some((name, more)) = word.split_once('+') {
             return Ok(self.plain(name)?.saturating_add(self.plain(more)?));
         }
@@ -254,7 +244,7 @@ impl Values {
     }
 
     /// The number that an option says, where it is given.
-    pub(crate) fn number_if<'a>(&self, word: Option<&'a str>) -> Result<Option<u64>, Wrong<'a>> {
+    pub fn number_if<'a>(&self, word: Option<&'a str>) -> Result<Option<u64>, Wrong<'a>> {
         match word {
             Some(word) => Ok(Some(self.number(word)?)),
             None => Ok(None),
@@ -262,16 +252,17 @@ impl Values {
     }
 
     /// Adds a command line to those of a name.
-    pub(crate) fn add_look(&mut self, name: &str, command: Command<'_>) -> Result<(), AllocError> {
+    pub fn add_look(&mut self, name: &str, command: Command<'_>) -> Result<(), AllocError> {
         let asked = asked_of(self.alloc, command)?;
         let index = self.look_index(name);
+        if index >= self.looks.len() {
+            let name = String::from_str(self.alloc, name)?;
+            let asked = Vec::new(self.alloc);
+            self.looks.push(Look { name, asked })?;
+        }
         match self.looks.get_mut(index) {
             Some(look) => Ok(look.asked.push(asked)?),
-            None => {
-                let name = String::from_str(self.alloc, name)?;
-                let asked = vec![in self.alloc; asked]?;
-                Ok(self.looks.push(Look { name, asked })?)
-            }
+            None => Ok(()),
         }
     }
 
@@ -283,7 +274,7 @@ impl Values {
     }
 
     /// The command lines of that name; none where none is given.
-    pub(crate) fn looks<'a>(&self, name: Option<&'a str>) -> Result<&[Asked], Wrong<'a>> {
+    pub fn looks<'a>(&self, name: Option<&'a str>) -> Result<&[Asked], Wrong<'a>> {
         match name {
             Some(name) => match self.looks.get(self.look_index(name)) {
                 Some(look) => Ok(look.asked.as_slice()),
