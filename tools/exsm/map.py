@@ -73,6 +73,11 @@ class Area(NamedTuple):
         return (max(self.uses) - self.first) // self.pages + 1 if self.uses else 0
 
     @property
+    def is_packed(self) -> bool:
+        """Whether the units in use are the lowest ones, as `exsm pack` leaves them."""
+        return self.reach == len(self.uses)
+
+    @property
     def filled(self) -> str:
         """How full the units in use are."""
         return percent(self.used, len(self.uses) * self.room)
@@ -98,7 +103,8 @@ def numbers_of(volume: Volume) -> dict[str, object]:
     sizes = volume.geometry
     areas = {area.name.replace(" ", "_"): {
         "units": area.units, "used": len(area.uses), "unit_bytes": area.room,
-        "bytes": area.used, "kinds": dict(Counter(use.kind for use in area.uses.values()))}
+        "bytes": area.used, "packed": area.is_packed,
+        "kinds": dict(Counter(use.kind for use in area.uses.values()))}
         for area in areas_of(volume)}
     files = {name: {"versions": len(records), "bytes": sum(record.size for record in records)}
              for name, records in volume.versions.items()}
@@ -127,7 +133,8 @@ def usage(volume: Volume) -> Iterator[str]:
     page_area, segment_area = areas_of(volume)
     yield area_line(page_area)
     yield from kind_lines(page_area)
-    yield f"{area_line(segment_area)}, {segment_area.filled} filled"
+    packed = ", packed" if segment_area.uses and segment_area.is_packed else ""
+    yield f"{area_line(segment_area)}, {segment_area.filled} filled{packed}"
     for name, records in volume.versions.items():
         yield file_line(name, records)
     for fault in volume.faults:

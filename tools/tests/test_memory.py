@@ -57,6 +57,7 @@ ROWS = {
     "one client's lines": Row(("clients", "v"), BASE, of_client(1, OTHERS)),
     "check": Row(("check", "v"), BASE),
     "dump": Row(("dump", "v"), BASE + VERSIONS),
+    "pack": Row(("pack", "v"), BASE + VERSIONS),
     "gen": Row(("gen", "v", "--seed", "3", "--count", "20")),
     "format": Row(("format", "v", *SIZES), None),
 }

@@ -270,6 +270,26 @@ class ReaderTest(InFolder):
         told = json.loads(ran.out)
         self.assertEqual((ran.status, told["part"], told["mends"]), (1, "super", False))
 
+    def test_packed(self) -> None:
+        """a map tells whether the units in use are the lowest ones"""
+        os.remove("v")
+        self.format("v", 4096, 100, 200)
+        self.assertTrue(self.is_packed())
+        with Store("v") as store, store.transaction():
+            store.file("a")
+            low, high = store.create("a"), store.create("a")
+            store.append(low, bytes(20_000))
+            store.append(high, bytes(20_000))
+        self.assertTrue(self.is_packed())
+        with Store("v") as store, store.transaction():
+            store.destroy(low)
+        self.assertFalse(self.is_packed())
+
+    def is_packed(self) -> bool:
+        """What a map tells of the segment area."""
+        told = json.loads(self.tool("exsm_map", "v", "--json").out)
+        return bool(told["segment_area"]["packed"])
+
     def test_map_out(self) -> None:
         """a picture is written to a name that ends as one, and over no volume"""
         ran = self.tool("exsm_map", "v", "v")

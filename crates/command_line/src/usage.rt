@@ -25,9 +25,11 @@ impl fmt::Display for Usage {
                 let generate = grammar_of(CommandWord::Gen);
                 let clients = grammar_of(CommandWord::Clients);
                 let dump = grammar_of(CommandWord::Dump);
+                let load = grammar_of(CommandWord::Load);
+                let pack = grammar_of(CommandWord::Pack);
                 write!(
                     f,
-                    "usage: exsm {format}\n       exsm {run}\n       exsm {check}\n       exsm {generate}\n       exsm {clients}\n       exsm {dump}"
+                    "usage: exsm {format}\n       exsm {run}\n       exsm {check}\n       exsm {generate}\n       exsm {clients}\n       exsm {dump}\n       exsm {load}\n       exsm {pack}"
                 )
             }
         }
@@ -50,6 +52,10 @@ const CLIENTS: &str = "clients VOLUME [--max-bytes N] < SCHEDULE
 
 const DUMP: &str = "dump VOLUME > STREAM";
 
+const LOAD: &str = "load VOLUME < STREAM";
+
+const PACK: &str = "pack VOLUME";
+
 /// How a command is called, behind the program's name.
 fn grammar_of(command: CommandWord) -> &'static str
     ensures { result.now ≡ grammar_text command }
@@ -61,5 +67,7 @@ fn grammar_of(command: CommandWord) -> &'static str
         CommandWord::Gen => GEN,
         CommandWord::Clients => CLIENTS,
         CommandWord::Dump => DUMP,
+        CommandWord::Load => LOAD,
+        CommandWord::Pack => PACK,
     }
 }

@@ -17,6 +17,10 @@ pub enum CommandWord {
     Clients,
     /// Opens a volume and writes its whole history as a stream.
     Dump,
+    /// Opens a volume that is empty and reads a stream of a history into it.
+    Load,
+    /// Opens a volume and moves its bytes to the lowest units.
+    Pack,
 }
 
 impl CommandWord {
@@ -32,6 +36,8 @@ impl CommandWord {
             "gen" => Some(CommandWord::Gen),
             "clients" => Some(CommandWord::Clients),
             "dump" => Some(CommandWord::Dump),
+            "load" => Some(CommandWord::Load),
+            "pack" => Some(CommandWord::Pack),
             _ => None,
         }
     }
@@ -47,6 +53,8 @@ impl CommandWord {
             CommandWord::Gen => "gen",
             CommandWord::Clients => "clients",
             CommandWord::Dump => "dump",
+            CommandWord::Load => "load",
+            CommandWord::Pack => "pack",
         }
     }
 
@@ -57,7 +65,7 @@ impl CommandWord {
         match self {
             CommandWord::Format => &["page-size", "pages", "segs", "seg-len", "fan"],
             CommandWord::Run | CommandWord::Clients => &["max-bytes"],
-            CommandWord::Check | CommandWord::Dump => &[],
+            CommandWord::Check | CommandWord::Dump | CommandWord::Load | CommandWord::Pack => &[],
             CommandWord::Gen => &["seed", "count"],
         }
     }

@@ -16,4 +16,8 @@ pub enum Wish {
     Clients { most: u64 },
     /// To open a volume and to write its whole history as a stream.
     Dump,
+    /// To open a volume that is empty and to read a stream of a history into it.
+    Load,
+    /// To open a volume and to move its bytes to the lowest units.
+    Pack,
 }
