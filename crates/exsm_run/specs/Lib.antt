@@ -8,4 +8,5 @@ pub mod Check
 pub mod Clients
 pub mod Generate
 pub mod Dump
+pub mod Pack
 pub mod Promises

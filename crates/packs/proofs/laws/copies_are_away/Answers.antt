@@ -1,0 +1,5 @@
+use Rattle.packs.proofs.Away.{away}
+use Rattle.packs.proofs.laws.copies_are_away.Goals as goal
+
+pub returns : goal.returns
+returns g c = λ s records v shows moves units own. away g.P.Ground s records v shows moves units own

@@ -1,0 +1,5 @@
+pub mod Faults
+pub mod Objects
+pub mod Resting
+pub mod Packing
+pub mod Loop
