@@ -1,7 +1,9 @@
 //! What is remembered of the room of files.
-ghost use Rattle.std.specs.Prelude.{◌≡◌, IfOk, IfErr, IfSome};
+ghost use Rattle.std.specs.Prelude.{◌≡◌, IfOk, IfErr, IfSome, None, OnOk};
+ghost use Rattle.ex_base.specs.Area.{InPageArea};
 ghost use Rattle.ex_base.specs.Ports.{Keeps, HasCause, IsDamage};
-ghost use Rattle.slotted_pages.specs.Reads.{IsPage, page_on};
+ghost use Rattle.slotted_pages.specs.Reads.{page_on};
+ghost use Rattle.file_rooms.specs.Rooms.{HasRoom};
 
 use ex_base::{PageNo, PortFault, ReadVolume};
 use file_bodies::Room;
@@ -30,7 +32,9 @@ impl Model for Rooms {
 
 /// The number of the file whose page may have room for the record of a new object.
 fn file_with_room(page: &[u8]) -> Option<u32>
-    ensures { IfSome result (λ file_no. IsPage page.now × ((page_on page.now).file_no ≡ file_no)) }
+    ensures some { IfSome result (λ file_no. HasRoom page.now
+        × ((page_on page.now).file_no ≡ file_no)) }
+    ensures none { result ≡ None → HasRoom page.now → ⊥ }
 {
     let Some(view) = SlottedView::of(page) else {
         return None;
@@ -42,8 +46,8 @@ fn file_with_room(page: &[u8]) -> Option<u32>
 }
 
 impl Rooms {
-    ghost use Rattle.std.specs.Prelude.{[]};
-    ghost use Rattle.file_rooms.specs.Rooms.{IsKept, IsLookedAt, IsLowered, room_of};
+    ghost use Rattle.std.specs.Prelude.{[], list_any, map};
+    ghost use Rattle.file_rooms.specs.Rooms.{IsKept, IsLookedAt, begins_behind, lowered_rooms, room_of};
 
     /// Nothing is remembered.
     pub fn new(alloc: Global) -> Rooms
@@ -68,7 +72,7 @@ impl Rooms {
         }
     }
 
-    /// Remembers a room in place of what was remembered of its file, where there is memory for it.
+    /// Remembers a room in place of what was remembered of its file. Of a file of which nothing was remembered it does so where there is memory for it.
     pub fn keep(&mut self, room: Room)
         ensures { IsKept self.old self.new room }
     {
@@ -76,13 +80,10 @@ impl Rooms {
     }
 
     // Whether the room of some file begins behind a page.
-    fn has_room_behind(&self, page: PageNo) -> bool {
-        for room in self.rooms.values() {
-            if page < room.from {
-                return true;
-            }
-        }
-        false
+    fn has_room_behind(&self, page: PageNo) -> bool
+        ensures { result ≡ list_any (begins_behind page.0) (map (λ entry. entry.1) self.now) }
+    {
+        self.rooms.values().any(|room| page < room.from)
     }
 
     /// Looks at a page on which a record was changed or removed, and hands on what was done. Where
@@ -99,11 +100,20 @@ impl Rooms {
         requires { V.ready volume.old }
         ensures same { IfOk result (λ looked. looked ≡ done) }
         ensures rooms { IsLookedAt self.old self.new page.0 }
+
+        // A page of files that has room for a record is the last from which its file's room begins.
+        ensures lowered { OnOk result (V.tells volume.old
+            → InPageArea (V.geometry volume.old) page.0 → HasRoom (V.image volume.old page.0)
+            → self.new ≡ lowered_rooms self.old (page_on (V.image volume.old page.0)).file_no
+            page.0) }
         ensures no_damage { IfErr result (λ fault. IsDamage fault → ⊥) }
         ensures kept { Keeps V.Ground volume.old volume.new }
         ensures cause { HasCause (V.faults volume.old) (V.faults volume.new) result }
     {
-        if !self.has_room_behind(page) || !volume.in_area(page) {
+        if !self.has_room_behind(page) {
+            return Ok(done);
+        }
+        if !volume.in_area(page) {
             return Ok(done);
         }
         if let Some(file_no) = file_with_room(volume.get(alloc, page)?) {
@@ -114,7 +124,7 @@ impl Rooms {
 
     /// A page of a file may have room again.
     fn lower(&mut self, file_no: u32, page: PageNo)
-        ensures { IsLowered self.old self.new file_no page.0 }
+        ensures { self.new ≡ lowered_rooms self.old file_no page.0 }
     {
         let mut room = self.of_file(file_no);
         if page < room.from {
