@@ -51,6 +51,11 @@ def edits_of(crate: str) -> list[str]:
     return list(files_below(f"crates/{crate}/must-fail", ".edit"))
 
 
+def kept_edits_of(crate: str) -> list[str]:
+    """The files of a crate's must-fail edits that the gate leaves out."""
+    return list(files_below(f"tools/edits/{crate}", ".edit"))
+
+
 @dataclass(eq=False)
 class Function:
     """A function: where it stands, what it belongs to, its clauses, and the names in its text."""
@@ -103,7 +108,8 @@ class Function:
 ITEM = re.compile(
     r"(?:unsafe )?(?:(impl)(?:<[^{]*?>)? (?:([\w:]+)(?:<[^{]*>)? for )?([\w:]+)"
     r"|(?:pub(?:\([a-z]+\))? )?(trait) (\w+))")
-HEAD = re.compile(r"\s*((?:pub(?:\([a-z]+\))? )?)(?:const )?(?:unsafe )?fn (\w+)")
+HEAD = re.compile(
+    r"\s*((?:pub(?:\([a-z]+\))? )?)(?:const )?(?:unsafe )?(?:extern \"C\" )?fn (\w+)")
 
 
 def read_functions(crate: str, path: str) -> list[Function]:

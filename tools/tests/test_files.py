@@ -8,6 +8,7 @@ import os
 import pty
 import random
 import re
+import signal
 import subprocess
 import sys
 import termios
@@ -27,6 +28,13 @@ from tests.support import TOOLS, InFolder
 FILES = 20
 INTERRUPTED_FILES = 2000
 SIZES = (0, 1, 2, 100, 511, 512, 513, 5_000, 49_151, 317_000, 2_000_003)
+
+
+def take_terminal() -> None:
+    """In a child: its input is its terminal, and Ctrl-C ends it, though the tests were begun in
+    the background, where a shell has it ignored."""
+    fcntl.ioctl(0, termios.TIOCSCTTY, 0)
+    signal.signal(signal.SIGINT, signal.SIG_DFL)
 
 
 IN_PARTS = """
@@ -333,7 +341,7 @@ class FilesTest(InFolder):
         run = subprocess.Popen(
             [sys.executable, str(TOOLS / "exsm_files.py"), "v", "put", *paths],
             stdin=other, stdout=other, stderr=other, start_new_session=True,
-            preexec_fn=lambda: fcntl.ioctl(0, termios.TIOCSCTTY, 0))
+            preexec_fn=take_terminal)
         os.close(other)
         seen = b""
         while b"f1 20000 bytes" not in seen:

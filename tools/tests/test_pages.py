@@ -14,7 +14,7 @@ class PagesTest(InFolder):
         super().setUp()
         for name in ("tools/dev", "tools/tests", "bench", "docs"):
             Path(name).mkdir(parents=True)
-        for name in ("figures.py", "fuzzed.py", "tested.py", "marks.py"):
+        for name in ("figures.py", "fuzzed.py", "tested.py", "marks.py", "words.py"):
             shutil.copy(TOP / "tools" / "dev" / name, "tools/dev")
 
     def script(self, name: str, *words: str) -> Ran:
