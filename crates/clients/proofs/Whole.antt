@@ -13,6 +13,7 @@ use Rattle.table_model.specs.declared.table.Table.{Table}
 use Rattle.script_lines.specs.Lines.{Line}
 use Rattle.script_lang.specs.Reading.{Reading, Silent, Asks, Fails}
 use Rattle.session_views.specs.View.{View, Meaning}
+use Rattle.engines.specs.Keeping.{Conduct}
 use Rattle.talks.specs.Headline.{SteppedTalk}
 use Rattle.talks.specs.Talking.{Exchange, HasTalked, Left}
 use Rattle.talks.specs.Transcript.{LastText, Row, StepsTo, Trail, exchanges, request_in}
@@ -77,9 +78,9 @@ module _ {S : Type 0} (M : Meaning S) where
       let owned : after ≡ owner_after is.client row.had.told owner = is.step.after_is ∙ ap (λ (x : Exchange). owner_after is.client x.told owner) (sym first) in
       ap (λ (o : Option ℕ). is_some o) owned ∙ by_said before owner is.client is.reading row.had.reading row.pick row.had.told row.view asked steps same
 
-  module _ (now : Outside) (was : List ℕ) where
+  module _ {H : Type 0} (C : Conduct S H) (now : Outside) (was : List ℕ) where
     pub whose : (lines : List Line) (rows : List (Row S)) (owner last : Option ℕ) (since : ℕ) (sent : List ℕ) (before after : View S) → Heard owner lines (exchanges rows) last
-        → Trail M now was since sent before rows after → is_some owner ≡ is_some before.machine.working → is_some last ≡ is_some after.machine.working
+        → Trail M C now was since sent before rows after → is_some owner ≡ is_some before.machine.working → is_some last ≡ is_some after.machine.working
     whose [] [] owner last since sent before after heard trail same =
         ap (λ (o : Option ℕ). is_some o) heard.1 ∙ same ∙ ap (λ (v : View S). is_some v.machine.working) (sym trail)
     whose [] (row ∷ rows) owner last since sent before after heard trail same = absurd (let no = heard.0 in cc)
@@ -112,9 +113,9 @@ lined {most} first talk handed left at had last (Some why) begins talked = (
       (lined_broken begins.reading talked),
 )
 
-served_turns : {S : Type 0} {M : Meaning S} {Fresh : View S → Type 0} {first last : Schedule} {table : Table} {was : List ℕ} {entry now : Outside} {ending : Option Stopped} (most : ℕ)
-    → BeginsSchedule first most → SteppedTalk M Fresh schedule_talking first last table was entry now ending → ServedTurns M Fresh table was most entry now ending
-served_turns {S} {M} {Fresh} {first} {last} {table} {was} {entry} {now} {ending} most begins talk =
+served_turns : {S H : Type 0} {M : Meaning S} {C : Conduct S H} {Fresh : View S → Type 0} {first last : Schedule} {table : Table} {was : List ℕ} {entry now : Outside} {ending : Option Stopped} (most : ℕ)
+    → BeginsSchedule first most → SteppedTalk M C Fresh schedule_talking first last table was entry now ending → ServedTurns M C Fresh table was most entry now ending
+served_turns {S} {H} {M} {C} {Fresh} {first} {last} {table} {was} {entry} {now} {ending} most begins talk =
     let found = lined first last talk.at entry.left now.left (exchanges talk.rows) talk.last ending begins talk.talked in
     let lines : Lined (HeardFrom None found.0) (LastAsks found.0 talk.at.clients.client) most entry.left (exchanges talk.rows) talk.last ending = found.1 in record {
       opening = talk.opening;
@@ -128,7 +129,7 @@ served_turns {S} {M} {Fresh} {first} {last} {table} {was} {entry} {now} {ending}
       after = talk.after;
       owner = found.0;
       heard = lines.heard;
-      whose = whose M now was lines.done talk.rows None found.0 talk.time [] talk.opening talk.after lines.heard talk.trail (sym (ap (λ (m : Machine). is_some m.working) talk.opened.starts.is));
+      whose = whose M C now was lines.done talk.rows None found.0 talk.time [] talk.opening talk.after lines.heard talk.trail (sym (ap (λ (m : Machine). is_some m.working) talk.opened.starts.is));
       front = talk.front;
       sent = talk.sent;
       is_front = last_reply M talk.after found.0 talk.at.clients.client lines.next talk.last talk.front lines.asks talk.is_front;
@@ -137,9 +138,10 @@ served_turns {S} {M} {Fresh} {first} {last} {table} {was} {entry} {now} {ending}
       ended = talk.ended;
       asked = request_in talk.last;
       is_asked = asked_by found.0 talk.at.clients.client lines.next talk.last lines.asks;
+      kept = talk.kept;
       stops = talk.stops;
     }
 
-pub served_of : {S : Type 0} {M : Meaning S} {Fresh : View S → Type 0} {table : Table} {was : List ℕ} {entry now : Outside} {ending : Option Stopped} {most : ℕ}
-    → SourceHeadline M Fresh schedule_talking BeginsSchedule most table was entry now ending → Served M Fresh table was most entry now ending
+pub served_of : {S H : Type 0} {M : Meaning S} {C : Conduct S H} {Fresh : View S → Type 0} {table : Table} {was : List ℕ} {entry now : Outside} {ending : Option Stopped} {most : ℕ}
+    → SourceHeadline M C Fresh schedule_talking BeginsSchedule most table was entry now ending → Served M C Fresh table was most entry now ending
 served_of {most = most} headline = ⊎_elim (λ stepped. inl (served_turns most stepped.2 stepped.3)) (λ unopened. inr unopened) headline

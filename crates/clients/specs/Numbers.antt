@@ -4,12 +4,13 @@ use Rattle.std.specs.Prelude.{decimal}
 use Rattle.std.proofs.lemmas.Bool.Decides.{nat_tests}
 use Rattle.std.proofs.lemmas.Fmt.{decimal_digit, decimal_step}
 use Rattle.table_model.specs.Words.{number_of}
+use Rattle.clients.specs.Names.{clients_most}
 
 -- one digit, or two of which the first is 1
 abbrev pub TwoForms : ℕ → Type 0
 TwoForms k = ((k < 10) × (decimal k ≡ (48 + k) ∷ [])) ⊎ ((10 ≤ k) × (decimal k ≡ 49 ∷ (38 + k) ∷ []))
 
-pub two_forms : (k : ℕ) → k ≤ 16 → TwoForms k
+pub two_forms : (k : ℕ) → k ≤ clients_most → TwoForms k
 two_forms k few = by_size (nat_lt k 10) refl
   where
     by_size : (less : Bool) → nat_lt k 10 ≡ less → TwoForms k
@@ -21,9 +22,9 @@ two_forms k few = by_size (nat_lt k 10) refl
         inr (high, decimal_step k high (omega (arith, few)) ∙ (λ i. decimal (first i) ++ (second i ∷ [])) ∙ ap (λ (l : List ℕ). l ++ (38 + k) ∷ []) (decimal_digit 1 (omega arith)))
 
 -- It is read back.
-pub number_back : (k : ℕ) → k ≤ 16 → number_of (decimal k) ≡ k
+pub number_back : (k : ℕ) → k ≤ clients_most → number_of (decimal k) ≡ k
 number_back k few =
     ⊎_elim (λ one. ap number_of one.1 ∙ omega arith) (λ two. ap number_of two.1 ∙ (let high : 10 ≤ k = two.0 in omega (arith, high))) (two_forms k few)
 
-pub short_number : (k : ℕ) → k ≤ 16 → length (decimal k) ≤ 2
+pub short_number : (k : ℕ) → k ≤ clients_most → length (decimal k) ≤ 2
 short_number k few = ⊎_elim (λ one. rw one.1 (omega arith)) (λ two. rw two.1 (omega arith)) (two_forms k few)

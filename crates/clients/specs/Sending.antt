@@ -21,7 +21,7 @@ use Rattle.runs.specs.Lacking.{each_differs, lacks, lacks_decimal, lacks_drop, l
 use Rattle.runs.specs.LineAcking.{line_acking}
 use Rattle.runs.specs.ReplyLines.{GivenClear, IsLine, clear_words, commit_is_read, given_clear, line_of, other_is_none, refusal_is_line}
 use Rattle.clients.specs.Acknowledged.{turn_commit_of, turn_commit_of_words}
-use Rattle.clients.specs.Names.{bare, told_bare}
+use Rattle.clients.specs.Names.{bare, clients_most, told_bare}
 use Rattle.clients.specs.Numbers.{number_back}
 use Rattle.clients.specs.Routing.{turn_text}
 
@@ -74,10 +74,10 @@ by_refusal (Some why) told given = refusal_is_line why
 pub record TellsTurn (told : Reply) (text : List ℕ) : Type 0 where
   pub line : IsLine (told_bare told)
   pub client : ℕ
-  pub few : client ≤ 16
+  pub few : client ≤ clients_most
   pub is : text ≡ turn_text client told
 
-pub tells : (client : ℕ) → client ≤ 16 → (told : Reply) → IsReply told → TellsTurn told (turn_text client told)
+pub tells : (client : ℕ) → client ≤ clients_most → (told : Reply) → IsReply told → TellsTurn told (turn_text client told)
 tells client few told (talking.stepped m r q after rules form step) = record {
   line = subst (λ (t : Reply). IsLine (told_bare t)) (sym step.reply) (by_refusal (refusal_of m r q) (reply_to m r q) (given_clear m r q rules form));
   client = client;
@@ -94,7 +94,7 @@ tells client few told (talking.refused why is) = record {
 -- ---- which commit a line tells
 
 -- Of a line with a number before it, it is the commit of what stands behind.
-behind : (k : ℕ) (line : List ℕ) → k ≤ 16 → turn_commit_of (decimal k ++ 32 ∷ line) ≡ commit_of line
+behind : (k : ℕ) (line : List ℕ) → k ≤ clients_most → turn_commit_of (decimal k ++ 32 ∷ line) ≡ commit_of line
 behind k line few =
     let cut : slice_split is_space (decimal k ++ 32 ∷ line) ≡ decimal k ∷ slice_split is_space line =
     slice_split_at is_space (decimal k) 32 line (each_differs 32 (decimal k) (lacks_decimal 32 k (omega arith))) refl in

@@ -1,5 +1,7 @@
 -- What `check` promises.
 use Rattle.std.proofs.Common.{◌≡◌, ◌≢◌, ◌∙◌, ◌⊎◌, ⊎_elim, ◌<◌, ℕ, List, ◌++◌, Some, length, take, inl, inr, refl, subst, arith, IsTrue}
+use Rattle.ex_base.specs.declared.faults.Seen.{Seen}
+use Rattle.ex_base.specs.declared.names.PageNo.{PageNo}
 use Rattle.disk_model.specs.Outside.{Outside, DiskOnly, IsWorld, Leaves, Rose, SinkOnly}
 use Rattle.disk_model.specs.Runs.{sink_refl}
 use Rattle.table_model.specs.declared.table.Table.{Table}
@@ -56,6 +58,9 @@ still_holds only counted = record { image = counted.image; holds = only.disk ∙
 
 pub line_good : (s : Status) (part : Part) → IsLineStatus s → s ≡ status.BadVolume part → ⊥
 line_good s part kind is = subst IsLineStatus is kind
+
+pub line_undamaged : (s : Status) (page : PageNo) (want got : Seen) → IsLineStatus s → s ≡ status.Damaged page want got → ⊥
+line_undamaged s page want got kind is = subst IsLineStatus is kind
 
 pub line_ends : (s : Status) → IsLineStatus s → s ≢ status.OutputFault → s ≢ status.DiskFault → (s ≡ status.Done) ⊎ (s ≡ status.Memory)
 line_ends status.Done kind output disk = inl refl

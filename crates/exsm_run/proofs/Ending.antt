@@ -1,5 +1,7 @@
 -- What the status of a run says of how it was stopped.
 use Rattle.std.proofs.Common.{◌≡◌, ◌⊎◌, ℕ, List, Option, None, Some, IfSome, arith, inl, inr, refl, sym, subst}
+use Rattle.ex_base.specs.declared.faults.Seen.{Seen}
+use Rattle.ex_base.specs.declared.names.PageNo.{PageNo}
 use Rattle.ex_base.specs.declared.geometry.Geometry.{Geometry}
 use Rattle.disk_model.specs.Outside.{Outside, IsWorld, Rose, WritesNothing}
 use Rattle.disk_model.specs.Runs.{leaves_quiet, leaves_start}
@@ -7,9 +9,12 @@ use Rattle.talks.specs.declared.stopped.Stopped.{Stopped}
 use Rattle.talks.specs.declared.stopped.Stopped.TheVariants as stopped
 use Rattle.table_model.specs.declared.table.Table.{Table}
 use Rattle.session_views.specs.declared.part.Part.{Part}
+use Rattle.engines.specs.Keeping.{Conduct, DamagedStep}
 use Rattle.talks.specs.Headline.{RunOn, RunStarts}
+use Rattle.talks.specs.Passage.{ByDamagedStep}
 use Rattle.runs.specs.Source.{MayComplete}
 use Rattle.session_core.specs.Meant.{meant}
+use Rattle.session_core.specs.Sessions.{SessionState}
 use Rattle.volume_model.proofs.AtMostOne.{one_table}
 use Rattle.talks.specs.Stops.{IsOpeningStop, IsSoundStop}
 use Rattle.command_line.specs.declared.status.Status.{Status}
@@ -80,7 +85,7 @@ left_alone {a} {b} world nothing = record {
 }
 
 -- what a run says of its disk, by its status
-pub opening_of : {a b : Outside} (most : ℕ) (ending : Option Stopped) → IsWorld a → RunOn meant a b ending → OpeningPromise a b (status_of most ending)
+pub opening_of : {H : Type 0} {C : Conduct SessionState H} {a b : Outside} (most : ℕ) (ending : Option Stopped) → IsWorld a → RunOn meant C a b ending → OpeningPromise a b (status_of most ending)
 opening_of {a} {b} most ending world on = record {
   bad = λ part is. on.bad part (bad_is most ending part is);
   unopened = λ image part holds fails.
@@ -90,6 +95,18 @@ opening_of {a} {b} most ending world on = record {
   only = λ part is. left_alone world (on.bad_only part (bad_is most ending part is));
   kept = λ part is. on.bad_kept part (bad_is most ending part is);
 }
+
+-- what it says of a damaged page
+pub damaged_of : {S H : Type 0} (C : Conduct S H) {a b : Outside} (most : ℕ) (ending : Option Stopped) → IfSome ending (ByDamagedStep C a b) → (page : PageNo) (want got : Seen)
+    → status_of most ending ≡ status.Damaged page want got → DamagedStep C a b page want got
+damaged_of C most None by page want got is = absurd (cc)
+damaged_of C most (Some stopped.Script) by page want got is = absurd (cc)
+damaged_of C most (Some stopped.Output) by page want got is = absurd (cc)
+damaged_of C most (Some stopped.Disk) by page want got is = absurd (cc)
+damaged_of C most (Some stopped.Memory) by page want got is = absurd (cc)
+damaged_of C most (Some (stopped.BadVolume part)) by page want got is = absurd (cc)
+damaged_of C most (Some (stopped.Damaged p w g)) by page want got is = by page want got (cc)
+damaged_of C most (Some stopped.ScriptLong) by page want got is = absurd (cc)
 
 -- a run that was stopped is not refused
 pub no_refusal : (most : ℕ) (why : Stopped) → IsRefusal (status_of most (Some why)) → ⊥

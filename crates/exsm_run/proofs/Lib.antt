@@ -1,4 +1,5 @@
 mod Ending
+mod Idle
 mod Making
 mod Opened
 mod Lines

@@ -4,8 +4,8 @@ use Rattle.disk_model.specs.Outside.{Outside, Leaves, Rose}
 use Rattle.ex_base.specs.declared.names.Area.TheVariants.{Page, Segment}
 use Rattle.table_model.specs.declared.table.Table.{Table}
 use Rattle.table_model.specs.Tables.{objects_of, versions_of}
-use Rattle.session_views.specs.declared.engine.Stop.{Stop}
-use Rattle.session_views.specs.declared.engine.Stop.TheVariants as stop
+use Rattle.session_views.specs.declared.stop.Stop.{Stop}
+use Rattle.session_views.specs.declared.stop.Stop.TheVariants as stop
 use Rattle.session_views.specs.declared.opener.OpenFault.{OpenFault}
 use Rattle.session_views.specs.declared.opener.OpenFault.TheVariants as open_fault
 use Rattle.session_views.specs.Opening.{StandsOpening}

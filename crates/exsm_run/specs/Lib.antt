@@ -2,6 +2,7 @@ pub mod Status
 pub mod EmptyVolume
 pub mod Format
 pub mod Fresh
+pub mod Kept
 pub mod Script
 pub mod Openings
 pub mod Check

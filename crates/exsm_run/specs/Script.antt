@@ -3,6 +3,7 @@ use Rattle.std.specs.Prelude.{◌≡◌, ◌≤◌, ℕ, List, length, Option, S
 use Rattle.disk_model.specs.Outside.{Outside, Only, Rose}
 use Rattle.table_model.specs.declared.table.Table.{Table}
 use Rattle.session_views.specs.View.{View, Meaning}
+use Rattle.engines.specs.Keeping.{Conduct}
 use Rattle.talks.specs.Headline.{HoldsTable}
 use Rattle.talks.specs.declared.stopped.Stopped.{Stopped}
 use Rattle.talks.specs.declared.stopped.Stopped.TheVariants as stopped
@@ -25,16 +26,16 @@ status_of most (Some (stopped.Damaged page want got)) = Damaged page want got
 status_of most (Some stopped.ScriptLong) = ScriptLong most
 
 -- The run of a script of at most so many bytes ended with this status, and this is what it did.
-pub record Ran {S : Type 0} (M : Meaning S) (Fresh : View S → Type 0) (most : ℕ) (table : Table) (was : List ℕ) (before after : Outside) (status : Status) : Type 0 where
+pub record Ran {S H : Type 0} (M : Meaning S) (C : Conduct S H) (Fresh : View S → Type 0) (most : ℕ) (table : Table) (was : List ℕ) (before after : Outside) (status : Status) : Type 0 where
   pub ending : Option Stopped
   pub is : status ≡ status_of most ending
-  pub headline : Headline M Fresh table was most before after ending
+  pub headline : Headline M C Fresh table was most before after ending
 
 -- The run of a source of at most so many bytes ended with this status, whichever talk took its lines, and this is what it did.
-pub record RanSource {S T : Type 0} (M : Meaning S) (Fresh : View S → Type 0) (K : Talking T) (begins : T → ℕ → Type 0) (most : ℕ) (before after : Outside) (status : Status) : Type 0 where
+pub record RanSource {S H T : Type 0} (M : Meaning S) (C : Conduct S H) (Fresh : View S → Type 0) (K : Talking T) (begins : T → ℕ → Type 0) (most : ℕ) (before after : Outside) (status : Status) : Type 0 where
   pub ending : Option Stopped
   pub is : status ≡ status_of most ending
-  pub run : RunOfSource M Fresh K begins most before after ending
+  pub run : RunOfSource M C Fresh K begins most before after ending
 
 -- the statuses of a run that took no line: the disk holds no volume, or could not be read, or no memory was there
 abbrev pub IsOpeningStatus : Status → Type 0

@@ -29,7 +29,8 @@ pub fn generate<H: Host>(alloc: Global, host: &mut H, seed: u64, count: u32) -> 
         → Rose (H.outside host.old).disk_faults (H.outside host.new).disk_faults }
     ensures damaged { (page : PageNo) (want got : Seen) → result ≡ Status.Damaged page want got
         → want ≢ got }
-    ensures promise { GenPromise seed count (H.outside host.old) (H.outside host.new) result }
+    ensures promise { GenPromise H.outside seed count (H.outside host.old) (H.outside host.new)
+        result }
 {
     let mut talk = Generated::make(alloc, seed, count);
     if let Err(stopped) = run_talk::<VolumeSession, Generated, H>(alloc, host, &mut talk) {

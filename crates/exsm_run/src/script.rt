@@ -1,6 +1,7 @@
 //! A script is run on a volume.
 ghost use Rattle.std.specs.Prelude.{◌≡◌, ◌≢◌, Some};
 ghost use Rattle.disk_model.specs.Outside.{Rose, Goes};
+ghost use Rattle.engines.specs.Keeping.{conduct};
 ghost use Rattle.ex_base.specs.declared.names.PageNo.{PageNo};
 ghost use Rattle.ex_base.specs.declared.faults.Seen.{Seen};
 ghost use Rattle.exsm_run.specs.Status.{IsRefusal};
@@ -40,8 +41,8 @@ pub fn run_script<S: Opener + Drop, T: SourceTalk + Drop, H: Host>(
     ensures never { IsRefusal result → ⊥ }
 
     // How it ended, and what a run of the source promises that ends so.
-    ensures ran { RanSource S.meaning S.fresh T.talking T.begins most (H.outside host.old)
-        (H.outside host.new) result }
+    ensures ran { RanSource S.meaning (conduct H.outside S.keeps) S.fresh T.talking T.begins most
+        (H.outside host.old) (H.outside host.new) result }
 
     // A fault is answered only where the count of such faults rose, and damage only of two things that differ.
     ensures script_fault { result ≡ Status.ScriptFault

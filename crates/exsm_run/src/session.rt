@@ -2,9 +2,10 @@
 ghost use Rattle.std.specs.Prelude.{◌≡◌, ◌≤◌, false};
 
 use disk_model::Host;
+use engines::Engine;
 use restart::open_volume;
 use session_core::Session;
-use session_views::{Engine, OpenFault, Stop};
+use session_views::{OpenFault, Stop};
 use std::alloc::Global;
 use std::marker::Model;
 use table_model::{Command, Reply};
@@ -31,7 +32,7 @@ impl VolumeSession {
     ghost use Rattle.disk_model.specs.Outside.{ReadsOnly, Rose};
     ghost use Rattle.ex_base.specs.declared.faults.Seen.{Seen};
     ghost use Rattle.ex_base.specs.declared.names.PageNo.{PageNo};
-    ghost use Rattle.session_views.specs.declared.engine.Stop.{Stop};
+    ghost use Rattle.session_views.specs.declared.stop.Stop.{Stop};
     ghost use Rattle.session_views.specs.View.{View, ShowsNow};
     ghost use Rattle.tree_store.specs.Stored.{Tells};
     ghost use Rattle.session_core.specs.Damage.{IsSessionDamage, no_version};
@@ -78,6 +79,7 @@ impl VolumeSession {
 }
 
 impl Engine for VolumeSession {
+    ghost use Rattle.exsm_run.specs.Kept.{StepKeeps};
     ghost use Rattle.ex_base.specs.Sizes.{volume_bytes};
     ghost use Rattle.session_core.specs.Meant.{meant};
 
@@ -86,6 +88,8 @@ impl Engine for VolumeSession {
     ghost up = { λ s. s.down ≡ false };
 
     ghost fits = { λ s size. volume_bytes s.geometry ≤ size };
+
+    ghost keeps = { StepKeeps };
 
     fn step<H: Host>(
         &mut self,

@@ -50,7 +50,7 @@ pub fn run<H: Host>(alloc: Global, words: &[String], host: &mut H) -> Status
 
     // What the command that they ask for promises, but where the words couldn't be read for want of memory: then nothing is called on the host.
     ensures does { (wish : Wish) → Asks (texts words.now) wish
-        → Promise wish (H.outside host.old) (H.outside host.new) result
+        → Promise H.outside wish (H.outside host.old) (H.outside host.new) result
         ⊎ ((result ≡ Status.Memory) × (host.new ≡ host.old)) }
 {
     let asked = match wish_of(alloc, words) {
@@ -76,7 +76,7 @@ fn fulfil<H: Host>(alloc: Global, host: &mut H, wish: Wish) -> Status
     ensures damaged { (page : PageNo) (want got : Seen) → result ≡ Status.Damaged page want got
         → want ≢ got }
     ensures refused { IsRefusal result → ReadsOnly (H.outside host.old) (H.outside host.new) }
-    ensures promise { Promise wish (H.outside host.old) (H.outside host.new) result }
+    ensures promise { Promise H.outside wish (H.outside host.old) (H.outside host.new) result }
 {
     match wish {
         Wish::Format(geometry) => format(alloc, host, &geometry),

@@ -30,7 +30,7 @@ use Rattle.history_dump.specs.declared.dumper.Dumper.{Dumper}
 use Rattle.history_dump.specs.declared.items.Items.{Items}
 use Rattle.history_dump.specs.declared.position.Position.{Position}
 use Rattle.history_dump.specs.declared.position.Position.TheVariants.{Head, Leaf, Node, File, Version, End}
-use Rattle.history_volumes.proofs.FewRecords.{few_stored_in}
+use Rattle.volume_model.proofs.FewRoots.{few_stored_in}
 use Rattle.history_dump.proofs.Positions.{AreLong, HasCounts, settled_at, settled_bytes, settled_there}
 use Rattle.history_dump.proofs.Shown.{stream_shown}
 use Rattle.history_dump.proofs.Steps.{some_left, zip_long}

@@ -35,7 +35,7 @@ use Rattle.history_model.specs.History.{History, HistoryFile, HistoryVersion}
 use Rattle.history_model.specs.Stream.{StreamHead, head_of}
 use Rattle.history_volumes.specs.Histories.{IsFileOn, IsHistoryOn, IsVersionOn, content_placed, leaf_pages, leaves_named, node_pages, roots_in_order}
 use Rattle.history_volumes.specs.Walks.{bytes_named, root_namings, root_nodes, unit_named}
-use Rattle.history_volumes.proofs.FewRecords.{few_stored_in}
+use Rattle.volume_model.proofs.FewRoots.{few_stored_in}
 use Rattle.history_volumes.proofs.FileItems.{filled_most}
 use Rattle.history_volumes.proofs.Made.{has_history, units_are}
 use Rattle.history_volumes.proofs.PieceItems.{leaves_few, nodes_few}

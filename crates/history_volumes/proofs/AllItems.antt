@@ -35,7 +35,7 @@ use Rattle.history_model.specs.Stream.{FitsHead, head_of}
 use Rattle.history_volumes.specs.Histories.{IsFileOn, IsHistoryOn, IsVersionOn, content_placed, leaf_pages, node_pages, page_placed, root_placed}
 use Rattle.history_volumes.specs.Transcribed.{at_of, place_of}
 use Rattle.history_volumes.proofs.Dumped.{files_are, number_of_tree}
-use Rattle.history_volumes.proofs.FewRecords.{few_stored_in}
+use Rattle.volume_model.proofs.FewRoots.{few_stored_in}
 use Rattle.history_volumes.proofs.FileItems.{file_long, files_long, names_same, needed_most, number_of_record, numbers_same, rising_of, root_field}
 use Rattle.history_volumes.proofs.Named.{leaf_filled}
 use Rattle.history_volumes.proofs.Numbers.{found_zip, numbered_within, second_has}

@@ -13,4 +13,3 @@ pub mod Placed
 pub mod AllItems
 pub mod Namings
 pub mod Made
-pub mod FewRecords

@@ -10,8 +10,9 @@ pub record IsHint (size : ℕ) (hints used : List Bool) : Type 0 where
 abbrev pub IsHinted : List Bool → List Bool → ℕ → Type 0
 IsHinted full crowded k = (slice_index_or full (k / 128) false ≡ true) ⊎ (slice_index_or crowded (k / 16384) false ≡ true)
 
--- no hint is new but those of runs that end at this place or before it
+-- The hint of the run that ends at this place is set, and no hint is new but those of runs that end there or before it.
 pub record SetsHintsBefore (size at : ℕ) (before after : List Bool) : Type 0 where
+  pub noted : (r : ℕ) → (r + 1) * size ≡ at → slice_index_or after r false ≡ true
   pub only : (r : ℕ) → slice_index_or after r false ≡ true → (slice_index_or before r false ≡ true) ⊎ ((r + 1) * size ≤ at)
 
 -- what holds of an area's lists, the place that no free unit precedes, the one up to which none lies behind that, and the number of free units

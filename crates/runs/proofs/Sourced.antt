@@ -13,6 +13,7 @@ use Rattle.script_lines.specs.Remains.{IfTold}
 use Rattle.script_lines.specs.declared.lines.Lines.{Lines}
 use Rattle.script_lang.specs.Reading.{Reading}
 use Rattle.session_views.specs.View.{View, Meaning}
+use Rattle.engines.specs.Keeping.{Conduct}
 use Rattle.talks.specs.Headline.{RunOn, RunStarts, TalkHeadline}
 use Rattle.talks.specs.Passage.{IsBroken, IsOver}
 use Rattle.talks.specs.Stops.{CausedBy, IsOpeningStop, IsSoundStop, IsWhole}
@@ -20,6 +21,7 @@ use Rattle.talks.specs.Talking.{Exchange, Left, Talking}
 use Rattle.talks.specs.declared.stopped.Stopped.{Stopped}
 use Rattle.talks.specs.declared.stopped.Stopped.TheVariants.{Output, Disk, Memory, BadVolume, Damaged, ScriptLong}
 use Rattle.talks.specs.declared.stopped.Stopped.TheVariants as stopped
+use Rattle.talks.proofs.Stopping.{opening_undamaged}
 use Rattle.talks.proofs.Whole.{unopened}
 use Rattle.runs.specs.Script.{TakenBy, line_if}
 use Rattle.runs.specs.Source.{BeginsReading, MayComplete, ReadsAll, ReadsSome, ReadsSource, RunOfSource}
@@ -117,16 +119,16 @@ memory_left (BadVolume part) before after sound caused short read write disk = a
 memory_left (Damaged page want got) before after sound caused short read write disk = absurd sound
 memory_left stopped.ScriptLong before after sound caused short read write disk = absurd (short refl)
 
-completed : {S : Type 0} {M : Meaning S} {before after : Outside} {most : ℕ} (ending : Option Stopped) → RunOn M before after ending → ReadsSource most before after ending → MayComplete M before after most
+completed : {S H : Type 0} {M : Meaning S} {C : Conduct S H} {before after : Outside} {most : ℕ} (ending : Option Stopped) → RunOn M C before after ending → ReadsSource most before after ending → MayComplete M before after most
     → (ending ≡ None) ⊎ (ending ≡ Some Memory)
 completed None on reads may = inl refl
 completed {before = before} {after = after} (Some why) on reads may =
     inr (ap (λ (w : Stopped). Some w) (memory_left why before after (on.sound may.table may.was may.on) on.caused
     (λ long. let more = reads.long (ap (λ (w : Stopped). Some w) long) may.script may.left in omega (arith, more, may.within)) may.no_read_fault may.no_output_fault may.no_disk_fault))
 
-pub run_of_source : {S T : Type 0} {M : Meaning S} {Fresh : View S → Type 0} {K : Talking T} {begins : T → ℕ → Type 0} {most : ℕ} {before after : Outside} (ending : Option Stopped) (first last : T)
-    → begins first most → ((table : Table) (was : List ℕ) → RunStarts M before table was → TalkHeadline M Fresh K first last table was before after ending)
-    → RunOn M before after ending → ReadsSource most before after ending → RunOfSource M Fresh K begins most before after ending
+pub run_of_source : {S H T : Type 0} {M : Meaning S} {C : Conduct S H} {Fresh : View S → Type 0} {K : Talking T} {begins : T → ℕ → Type 0} {most : ℕ} {before after : Outside} (ending : Option Stopped) (first last : T)
+    → begins first most → ((table : Table) (was : List ℕ) → RunStarts M before table was → TalkHeadline M C Fresh K first last table was before after ending)
+    → RunOn M C before after ending → ReadsSource most before after ending → RunOfSource M C Fresh K begins most before after ending
 run_of_source ending first last begins headline on reads = record {
   headline = λ table was starts. ⊎_elim (λ stepped. inl (first, last, begins, stepped)) (λ unopened. inr unopened) (headline table was starts);
   on = on;
@@ -135,12 +137,13 @@ run_of_source ending first last begins headline on reads = record {
 }
 
 -- No memory was there for the lines: nothing was begun.
-pub unbegun : {S T : Type 0} {M : Meaning S} {Fresh : View S → Type 0} {K : Talking T} {begins : T → ℕ → Type 0} {most : ℕ} (w : Outside) → IsWorld w → RunOfSource M Fresh K begins most w w (Some Memory)
-unbegun {M = M} w world = record {
+pub unbegun : {S H T : Type 0} {M : Meaning S} {C : Conduct S H} {Fresh : View S → Type 0} {K : Talking T} {begins : T → ℕ → Type 0} {most : ℕ} (w : Outside) → IsWorld w → RunOfSource M C Fresh K begins most w w (Some Memory)
+unbegun {M = M} {C = C} w world = record {
   headline = λ table was starts. inr (unopened world starts (disk_refl w)
       (leaves_start w (λ d. M.StandsFor d table) world (λ d here. subst (λ (x : List ℕ). M.StandsFor x table) (sym (starts.settled d here)) starts.on.stands)) Memory tt);
   on = record {
     caused = tt;
+    damaged = opening_undamaged C w w Memory tt;
     sound = λ table was on. tt;
     bad = λ part is. absurd (cc);
     bad_only = λ part is. absurd (cc);

@@ -6,6 +6,7 @@ use Rattle.script_lines.specs.Lines.{Line}
 use Rattle.script_lang.specs.Reading.{Reading, Silent, Asks, Fails}
 use Rattle.script_replies.specs.ReplyText.{text_of}
 use Rattle.session_views.specs.View.{View, Meaning}
+use Rattle.engines.specs.Keeping.{Conduct}
 use Rattle.talks.specs.Headline.{SteppedTalk}
 use Rattle.talks.specs.Talking.{Exchange, HasTalked, Left}
 use Rattle.talks.specs.Transcript.{LastText, exchanges, request_in}
@@ -41,9 +42,9 @@ lined {most} first talk handed left at had last None begins talked =
     subst (λ (l : Option Reading). Lined Heard LastAsks most left had l None) (sym talked.0) (lined_read begins tt talked.1)
 lined first talk handed left at had last (Some why) begins talked = lined_broken begins talked
 
-stepped_lines : {S : Type 0} {M : Meaning S} {Fresh : View S → Type 0} {first last : Script} {table : Table} {was : List ℕ} {entry now : Outside} {ending : Option Stopped} (most : ℕ) → BeginsReading first.reader most
-    → SteppedTalk M Fresh script_talking first last table was entry now ending → SteppedLines M Fresh table was most entry now ending
-stepped_lines {S} {M} {Fresh} {first} {last} {table} {was} {entry} {now} {ending} most begins talk =
+stepped_lines : {S H : Type 0} {M : Meaning S} {C : Conduct S H} {Fresh : View S → Type 0} {first last : Script} {table : Table} {was : List ℕ} {entry now : Outside} {ending : Option Stopped} (most : ℕ) → BeginsReading first.reader most
+    → SteppedTalk M C Fresh script_talking first last table was entry now ending → SteppedLines M C Fresh table was most entry now ending
+stepped_lines {S} {H} {M} {C} {Fresh} {first} {last} {table} {was} {entry} {now} {ending} most begins talk =
     let lines : Lined Heard LastAsks most entry.left (exchanges talk.rows) talk.last ending = lined first last talk.at entry.left now.left (exchanges talk.rows) talk.last ending begins talk.talked in record {
       opening = talk.opening;
       time = talk.time;
@@ -65,9 +66,10 @@ stepped_lines {S} {M} {Fresh} {first} {last} {table} {was} {entry} {now} {ending
       ended = talk.ended;
       asked = request_in talk.last;
       is_asked = asked_by lines.next talk.last lines.asks;
+      kept = talk.kept;
       stops = talk.stops;
     }
 
-pub headline_of : {S : Type 0} {M : Meaning S} {Fresh : View S → Type 0} {table : Table} {was : List ℕ} {entry now : Outside} {ending : Option Stopped} {most : ℕ}
-    → SourceHeadline M Fresh script_talking script_begins most table was entry now ending → Headline M Fresh table was most entry now ending
+pub headline_of : {S H : Type 0} {M : Meaning S} {C : Conduct S H} {Fresh : View S → Type 0} {table : Table} {was : List ℕ} {entry now : Outside} {ending : Option Stopped} {most : ℕ}
+    → SourceHeadline M C Fresh script_talking script_begins most table was entry now ending → Headline M C Fresh table was most entry now ending
 headline_of {most = most} headline = ⊎_elim (λ stepped. inl (stepped_lines most stepped.2 stepped.3)) (λ unopened. inr unopened) headline

@@ -5,6 +5,7 @@ use Rattle.table_model.specs.declared.table.Table.{Table}
 use Rattle.script_lines.specs.Reader.{ahead, counted, to_take}
 use Rattle.script_lines.specs.declared.lines.Lines.{Lines}
 use Rattle.session_views.specs.View.{View, Meaning}
+use Rattle.engines.specs.Keeping.{Conduct}
 use Rattle.talks.specs.Headline.{HoldsTable, RunOn, RunStarts, SteppedTalk, Unopened}
 use Rattle.talks.specs.Talking.{Talking, Left}
 use Rattle.talks.specs.declared.stopped.Stopped.{Stopped}
@@ -25,9 +26,9 @@ abbrev pub ReadsSome : ℕ → Left → Stopped → Left → Type 0
 ReadsSome most left why at = (script : List ℕ) → left ≡ Some script → (why ≡ ScriptLong → most < length script) × ((n : ℕ) × (n ≤ most + 1) × (at ≡ Some (drop n script)))
 
 -- The volume was opened and lines were stepped, from a talk that had taken nothing, or the volume wasn't opened; given how the run ends.
-abbrev pub SourceHeadline : {S T : Type 0} → Meaning S → (View S → Type 0) → Talking T → (T → ℕ → Type 0) → ℕ → Table → List ℕ → Outside → Outside → Option Stopped → Type 0
-SourceHeadline {S} {T} M Fresh K begins most table was entry now ending =
-    ((first : T) × (last : T) × begins first most × SteppedTalk M Fresh K first last table was entry now ending) ⊎ Unopened M table was entry now ending
+abbrev pub SourceHeadline : {S H T : Type 0} → Meaning S → Conduct S H → (View S → Type 0) → Talking T → (T → ℕ → Type 0) → ℕ → Table → List ℕ → Outside → Outside → Option Stopped → Type 0
+SourceHeadline {S} {H} {T} M C Fresh K begins most table was entry now ending =
+    ((first : T) × (last : T) × begins first most × SteppedTalk M C Fresh K first last table was entry now ending) ⊎ Unopened M table was entry now ending
 
 -- The source is long exactly where it gave more bytes than count; else it is read to its end. It loses a front, of one byte more than count at most,
 -- however the run ends.
@@ -50,11 +51,11 @@ pub record MayComplete {S : Type 0} (M : Meaning S) (before after : Outside) (mo
   pub no_disk_fault : Rose before.disk_faults after.disk_faults → ⊥
 
 -- What a run of a source promises, of which at most so many bytes count, given how it ends.
-pub record RunOfSource {S T : Type 0} (M : Meaning S) (Fresh : View S → Type 0) (K : Talking T) (begins : T → ℕ → Type 0) (most : ℕ) (before after : Outside) (ending : Option Stopped) : Type 0 where
-  -- what was replied, from view to view, and what a stop at any moment leaves
-  pub headline : (table : Table) (was : List ℕ) → RunStarts M before table was → SourceHeadline M Fresh K begins most table was before after ending
+pub record RunOfSource {S H T : Type 0} (M : Meaning S) (C : Conduct S H) (Fresh : View S → Type 0) (K : Talking T) (begins : T → ℕ → Type 0) (most : ℕ) (before after : Outside) (ending : Option Stopped) : Type 0 where
+  -- what was replied, from view to view, what each step kept, and what a stop at any moment leaves
+  pub headline : (table : Table) (was : List ℕ) → RunStarts M before table was → SourceHeadline M C Fresh K begins most table was before after ending
   -- what becomes of the disk, and why it was stopped
-  pub on : RunOn M before after ending
+  pub on : RunOn M C before after ending
   pub reads : ReadsSource most before after ending
   -- Without a fault of the outside it reaches the end of a source that is within its bound, but for want of memory.
   pub completes : MayComplete M before after most → (ending ≡ None) ⊎ (ending ≡ Some Memory)

@@ -2,6 +2,7 @@
 ghost use Rattle.std.specs.Prelude.{IfOk};
 ghost use Rattle.std.specs.Result.{result_err};
 ghost use Rattle.disk_model.specs.Outside.{Goes};
+ghost use Rattle.engines.specs.Keeping.{conduct};
 ghost use Rattle.talks.specs.Passage.{IsBroken, IsOver};
 ghost use Rattle.talks.specs.Talking.{Left};
 ghost use Rattle.talks.specs.declared.stopped.Stopped.{Stopped};
@@ -39,8 +40,8 @@ pub fn run_source<E: Opener + Drop, T: SourceTalk + Drop, H: Host>(
     max_bytes: u64,
 ) -> Result<(), Stopped>
     ensures goes { Goes (H.outside host.old) (H.outside host.new) }
-    ensures run { RunOfSource E.meaning E.fresh T.talking T.begins max_bytes
-        (H.outside host.old) (H.outside host.new) (result_err result) }
+    ensures run { RunOfSource E.meaning (conduct H.outside E.keeps) E.fresh T.talking T.begins
+        max_bytes (H.outside host.old) (H.outside host.new) (result_err result) }
 {
     let mut talk = T::make(alloc, max_bytes)?;
     run_talk::<E, T, H>(alloc, host, &mut talk)

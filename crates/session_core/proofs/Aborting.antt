@@ -25,7 +25,7 @@ use Rattle.table_model.specs.Machines.{IsMachine, kept}
 use Rattle.table_model.specs.Requests as request
 use Rattle.table_model.specs.Steps.{Step}
 use Rattle.table_model.proofs.StepsKeep.{steps_keep}
-use Rattle.session_views.specs.declared.engine.Stop.{Stop}
+use Rattle.session_views.specs.declared.stop.Stop.{Stop}
 use Rattle.session_views.specs.View.{ShowsNow, Stepped, View}
 use Rattle.volume_model.specs.Homes.{home}
 use Rattle.volume_model.specs.OwnersMoved.{PagesGo}

@@ -5,7 +5,7 @@ use Rattle.ex_base.specs.declared.geometry.Geometry.{Geometry}
 use Rattle.ex_base.specs.declared.names.Area.{Area}
 use Rattle.ex_base.specs.declared.names.PageNo.{PageNo}
 use Rattle.ex_base.specs.declared.faults.Seen.{Seen}
-use Rattle.session_views.specs.declared.engine.Stop.TheVariants as stop
+use Rattle.session_views.specs.declared.stop.Stop.TheVariants as stop
 use Rattle.ex_base.specs.Area.{catalog_no}
 use Rattle.disk_model.specs.Outside.{Outside, IsWorld, ReadsOnly}
 use Rattle.buffer_groups.specs.Frames.{Frames}

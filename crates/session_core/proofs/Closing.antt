@@ -15,7 +15,7 @@ use Rattle.buffer_groups.specs.Frames.{Frames}
 use Rattle.open_scans.specs.OpenScans.{AtRow, IsOpenScan, OpenRow, scan_of}
 use Rattle.open_scans.proofs.Removed.{fewer_left, in_at, map_removed, roots_removed, row_at, zip_removed}
 use Rattle.page_alloc.specs.UnitSet.{UnitSet, refs_at, used_at}
-use Rattle.session_views.specs.declared.engine.Stop.{Stop}
+use Rattle.session_views.specs.declared.stop.Stop.{Stop}
 use Rattle.session_views.specs.View.{View, ShowsNow}
 use Rattle.table_model.specs.declared.machine.Machine.{Machine}
 use Rattle.trees.specs.Damage.{IsWhole}

@@ -26,8 +26,8 @@ use Rattle.volume_port.specs.GivingUp.{IsGivingFault}
 use Rattle.disk_model.specs.Outside.{Outside}
 use Rattle.disk_model.specs.Runs.{honest_on, told_value}
 use Rattle.buffer_groups.specs.Frames.{Lends}
-use Rattle.session_views.specs.declared.engine.Stop.{Stop}
-use Rattle.session_views.specs.declared.engine.Stop.TheVariants as stop
+use Rattle.session_views.specs.declared.stop.Stop.{Stop}
+use Rattle.session_views.specs.declared.stop.Stop.TheVariants as stop
 use Rattle.tree_store.specs.Stored.{Tells, unit_bytes}
 use Rattle.trees.specs.Damage.{IsRootFault}
 use Rattle.volume_edits.specs.Damage as damage

@@ -33,7 +33,7 @@ use Rattle.version_lists.specs.declared.version.Version.{Version}
 use Rattle.table_model.specs.Machines.{shown}
 use Rattle.table_model.specs.Tables.{version_at, versions_of}
 use Rattle.table_model.specs.Refusals.{branches_if}
-use Rattle.session_views.specs.declared.engine.Stop.{Stop}
+use Rattle.session_views.specs.declared.stop.Stop.{Stop}
 use Rattle.session_views.specs.View.{View, ShowsNow}
 use Rattle.versions.specs.Found as found_words
 use Rattle.ex_base.proofs.Members.{In, in_contains, of_each}

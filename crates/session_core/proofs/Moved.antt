@@ -21,7 +21,7 @@ use Rattle.ex_base.specs.declared.faults.PortFault.{PortFault}
 use Rattle.ex_base.specs.declared.names.Oid.{Oid}
 use Rattle.disk_model.specs.Outside.{IsWorld, Leaves}
 use Rattle.table_model.specs.Requests.{Request}
-use Rattle.session_views.specs.declared.engine.Stop.{Stop}
+use Rattle.session_views.specs.declared.stop.Stop.{Stop}
 use Rattle.session_views.specs.View.{View, ShowsNow, StandsDuring}
 use Rattle.session_core.specs.Meant.{meant}
 use Rattle.session_core.proofs.Updating.{update_moments}

@@ -9,8 +9,8 @@ use Rattle.table_model.specs.declared.table.Table.{Table}
 use Rattle.table_model.specs.Machines.{oid_of}
 use Rattle.table_model.specs.Requests.{Reference, Bound, Numbered}
 use Rattle.table_model.specs.Tables.{version_at}
-use Rattle.session_views.specs.declared.engine.Stop.{Stop}
-use Rattle.session_views.specs.declared.engine.Stop.TheVariants as stop
+use Rattle.session_views.specs.declared.stop.Stop.{Stop}
+use Rattle.session_views.specs.declared.stop.Stop.TheVariants as stop
 use Rattle.session_views.specs.View.{View, ShowsNow}
 use Rattle.session_core.specs.Sessions.{SessionState}
 use Rattle.session_core.specs.Meant.{meant}

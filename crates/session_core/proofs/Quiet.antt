@@ -13,7 +13,7 @@ use Rattle.table_model.specs.Requests.{Request}
 use Rattle.table_model.specs.Refusals.{refusal_of}
 use Rattle.table_model.specs.Steps.{IsAllowed, IfAccepted}
 use Rattle.table_model.proofs.Stepping.{refused}
-use Rattle.session_views.specs.declared.engine.Stop.{Stop}
+use Rattle.session_views.specs.declared.stop.Stop.{Stop}
 use Rattle.session_views.specs.View.{View, ShowsNow, StandsDuring}
 use Rattle.volume_model.specs.Shown.{Held, Shows, Lends, PageRow, WorkingShown}
 use Rattle.volume_model.specs.Volume.{Decoded, Volume}

@@ -10,7 +10,7 @@ use Rattle.ex_base.specs.declared.names.Root.{Root}
 use Rattle.ex_base.specs.Ports.{IsDamage}
 use Rattle.disk_model.specs.Outside.{Outside}
 use Rattle.buffer_groups.specs.Frames.{Frames}
-use Rattle.session_views.specs.declared.engine.Stop.{Stop}
+use Rattle.session_views.specs.declared.stop.Stop.{Stop}
 use Rattle.tree_store.specs.Stored.{Tells, unit_bytes}
 use Rattle.trees.specs.Damage.{IsRootFault}
 use Rattle.volume_edits.specs.Damage as damage

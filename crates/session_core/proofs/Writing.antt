@@ -19,8 +19,8 @@ use Rattle.object_files.specs.Reads.{catalog_on}
 use Rattle.commits.specs.Room.{AreBehindLog}
 use Rattle.commits.specs.declared.keep.CommitFault.{CommitFault}
 use Rattle.commits.specs.declared.keep.CommitFault.TheVariants as fault
-use Rattle.session_views.specs.declared.engine.Stop.{Stop}
-use Rattle.session_views.specs.declared.engine.Stop.TheVariants as stop
+use Rattle.session_views.specs.declared.stop.Stop.{Stop}
+use Rattle.session_views.specs.declared.stop.Stop.TheVariants as stop
 use Rattle.session_views.specs.View.{View, ShowsNow, Stepped, StandsDuring}
 use Rattle.table_model.specs.Requests as request
 use Rattle.table_model.specs.declared.reply.Reply.TheVariants as reply

@@ -11,8 +11,8 @@ use Rattle.buffer_groups.specs.declared.group.FetchFault.TheVariants as fetch
 use Rattle.buffer_groups.specs.Frames.{Frames, Lends}
 use Rattle.meta_pages.specs.Overlays.{Overlays, image_at}
 use Rattle.object_files.specs.Catalog.{Catalog, CatalogOf}
-use Rattle.session_views.specs.declared.engine.Stop.{Stop}
-use Rattle.session_views.specs.declared.engine.Stop.TheVariants as stop
+use Rattle.session_views.specs.declared.stop.Stop.{Stop}
+use Rattle.session_views.specs.declared.stop.Stop.TheVariants as stop
 use Rattle.session_core.specs.Sessions.{SessionState}
 
 -- the bytes of the catalog, where the disk holds d: the transaction's image, or that of the log, or what stands at home

@@ -21,8 +21,8 @@ use Rattle.volume_model.specs.Volume.{Decoded, Volume, reach_of, units_of}
 use Rattle.session_core.specs.Sessions.{SessionState}
 use Rattle.commits.specs.declared.keep.CommitFault.{CommitFault}
 use Rattle.commits.specs.declared.keep.CommitFault.TheVariants as fault
-use Rattle.session_views.specs.declared.engine.Stop.{Stop}
-use Rattle.session_views.specs.declared.engine.Stop.TheVariants as stop
+use Rattle.session_views.specs.declared.stop.Stop.{Stop}
+use Rattle.session_views.specs.declared.stop.Stop.TheVariants as stop
 
 abbrev pub stop_of : CommitFault → Stop
 stop_of fault.Memory = stop.Memory

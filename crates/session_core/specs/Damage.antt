@@ -10,8 +10,8 @@ use Rattle.ex_base.specs.declared.names.PageNo.{PageNo}
 use Rattle.ex_base.specs.declared.names.Root.{Root}
 use Rattle.disk_model.specs.Outside.{Outside}
 use Rattle.open_scans.specs.OpenScans.{OpenRow}
-use Rattle.session_views.specs.declared.engine.Stop.{Stop}
-use Rattle.session_views.specs.declared.engine.Stop.TheVariants as stop
+use Rattle.session_views.specs.declared.stop.Stop.{Stop}
+use Rattle.session_views.specs.declared.stop.Stop.TheVariants as stop
 use Rattle.tree_store.specs.Stored.{Tells, unit_bytes}
 use Rattle.trees.specs.Damage.{IsRootFault}
 use Rattle.trees.specs.Trees.{Units}

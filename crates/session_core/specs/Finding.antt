@@ -29,8 +29,8 @@ use Rattle.table_model.specs.Refusals.{branches_if}
 use Rattle.table_model.specs.Steps.{current_if, oids, versions_if}
 use Rattle.table_model.specs.Tables.{file_at, object_at, version_at, versions_of}
 use Rattle.version_lists.specs.Versions.{derived_from, listed, numbered_in, unique_of}
-use Rattle.session_views.specs.declared.engine.Stop.{Stop}
-use Rattle.session_views.specs.declared.engine.Stop.TheVariants as stop
+use Rattle.session_views.specs.declared.stop.Stop.{Stop}
+use Rattle.session_views.specs.declared.stop.Stop.TheVariants as stop
 use Rattle.session_views.specs.View.{View, ShowsNow}
 use Rattle.versions.specs.Found.{root_of}
 use Rattle.versions.specs.Found as found_words

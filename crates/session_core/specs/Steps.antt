@@ -8,7 +8,7 @@ use Rattle.table_model.specs.declared.reply.Reply.TheVariants as reply
 use Rattle.table_model.specs.declared.reply.Refusal.{Refusal}
 use Rattle.table_model.specs.Requests.{Request}
 use Rattle.table_model.specs.Requests as request
-use Rattle.session_views.specs.declared.engine.Stop.{Stop}
+use Rattle.session_views.specs.declared.stop.Stop.{Stop}
 use Rattle.session_views.specs.View.{View, ShowsNow, Stepped, StandsDuring}
 use Rattle.session_core.specs.Sessions.{SessionState}
 use Rattle.session_core.specs.Catalogs.{FramesLend, ReadingStops, catalog_bytes}

@@ -1,5 +1,5 @@
 -- A run goes on: a line is taken, a step is made, a reply is told.
-use Rattle.std.proofs.Common.{◌≡◌, ◌⊎◌, ◌∙◌, ℕ, ◌+◌, ◌≤◌, ◌<◌, IsTrue, Option, Some, None, List, [], ◌∷◌, ◌++◌, length, take, min, Bool, true, false, ltb, is_some, refl, sym, ap, subst, inl, inr, ⊎_elim, arith, append_assoc}
+use Rattle.std.proofs.Common.{◌≡◌, ◌⊎◌, ◌∙◌, ℕ, ◌+◌, ◌≤◌, ◌<◌, IsTrue, Option, Some, None, List, [], ◌∷◌, ◌++◌, length, take, min, Bool, true, false, ltb, is_some, Ok, Err, refl, sym, ap, subst, inl, inr, ⊎_elim, arith, append_assoc}
 use Rattle.std.proofs.lemmas.List.{append-nil, append_cancel_left, take-take, length-take, take_all}
 use Rattle.std.proofs.lemmas.Bool.{ltb-true, ltb-false}
 use Rattle.std.proofs.Math.Seq.{take-append_seam, take-length}
@@ -12,19 +12,22 @@ use Rattle.table_model.specs.declared.machine.Pick.{Pick}
 use Rattle.table_model.specs.declared.reply.Reply.{Reply}
 use Rattle.table_model.specs.declared.reply.Refusal.{Refusal}
 use Rattle.table_model.specs.declared.reply.Reply.TheVariants as reply
-use Rattle.table_model.specs.Requests.{Request, is_request}
+use Rattle.table_model.specs.Requests.{Request, Abort, is_request}
 use Rattle.table_model.specs.Steps.{table_committed}
 use Rattle.script_lang.specs.Reading.{Reading, Asks, Fails}
+use Rattle.session_views.specs.declared.Stop.{Stop}
 use Rattle.session_views.specs.View.{View, Meaning, ShowsNow, Stepped, StandsDuring}
+use Rattle.engines.specs.Keeping.{Conduct, StepKept}
 use Rattle.talks.specs.Acking.{Acking}
 use Rattle.talks.specs.Sending.{SentFront, SentPart}
 use Rattle.talks.specs.Talking.{Exchange, IsReply}
 use Rattle.talks.specs.Talking as talking
-use Rattle.talks.specs.Transcript.{Row, ShowsAt, StepsTo, Trail, Committed, InFlight, IsRunMoment, Opens, Reached, CutShort, LastText, output_of}
+use Rattle.talks.specs.Stops.{stop_as, IsSendingStop, IsTakingStop}
+use Rattle.talks.specs.Transcript.{Row, ShowsAt, StepsTo, LineKept, Trail, Committed, InFlight, IsRunMoment, Opens, Reached, CutShort, Ended, LastText, last_time, output_of}
 use Rattle.talks.specs.declared.stopped.Stopped.{Stopped}
 use Rattle.talks.specs.declared.stopped.Stopped.TheVariants.{Output}
 use Rattle.talks.proofs.Steps.{Commits, Keeps, commits_or_keeps}
-use Rattle.talks.proofs.Rows.{output_more, exchanges_more, last_time, up_to_now, trail_more, committed_more, committed_row, committed_last}
+use Rattle.talks.proofs.Rows.{output_more, exchanges_more, line_kept_within, step_kept_within, up_to_now, trail_more, committed_more, committed_row, committed_last}
 use Rattle.talks.proofs.Rows as rows
 
 -- a table that was committed, or that a commit on its way makes, with its number as it bears on what is told
@@ -95,10 +98,10 @@ along_sending {S} {entry} {b} {c} M A opening rows last asked was text j t n cov
 
 -- ---- the tables that a reply stands over
 
-pub covers_step : {S : Type 0} {M : Meaning S} {A : Acking} {opening : View S} {was : List ℕ} {entry now w : Outside} {session now_session : S} {had : List Exchange} {r : Request} {told : Reply} {text : List ℕ}
-    (so_far : Reached M A opening was entry now session had) (stepped : Stepped M so_far.view r told now_session w) → A.Tells told text
+pub covers_step : {S H : Type 0} {M : Meaning S} {C : Conduct S H} {A : Acking} {opening : View S} {was : List ℕ} {entry now w : Outside} {session now_session : S} {had : List Exchange} {r : Request} {told : Reply} {text : List ℕ}
+    (so_far : Reached M C A opening was entry now session had) (stepped : Stepped M so_far.view r told now_session w) → A.Tells told text
     → Covers A opening.machine so_far.rows so_far.view.machine (Some r) text stepped.after.machine.committed.last stepped.after.machine.committed
-covers_step {S} {M} {A} {opening} {was} {entry} {now} {w} {session} {now_session} {had} {r} {told} {text} so_far stepped tells =
+covers_step {S} {H} {M} {C} {A} {opening} {was} {entry} {now} {w} {session} {now_session} {had} {r} {told} {text} so_far stepped tells =
     ⊎_elim committing keeping (commits_or_keeps (M.rules now.images so_far.view so_far.shows.shows) stepped.step)
   where
     before : View S
@@ -111,7 +114,7 @@ covers_step {S} {M} {A} {opening} {was} {entry} {now} {w} {session} {now_session
     sent = output_of so_far.rows
 
     committed : Committed opening.machine so_far.rows before.machine.committed.last before.machine.committed
-    committed = committed_last M now was entry.clock [] opening before so_far.rows so_far.trail
+    committed = committed_last M C now was entry.clock [] opening before so_far.rows so_far.trail
 
     committing : Commits before.machine r told stepped.after.machine → Covers A opening.machine so_far.rows before.machine (Some r) text stepped.after.machine.committed.last stepped.after.machine.committed
     committing commits = record {
@@ -131,11 +134,11 @@ covers_step {S} {M} {A} {opening} {was} {entry} {now} {w} {session} {now_session
           closes = λ k u flight. absurd (keeps.not_open flight.0);
         }
 
-pub covers_refused : {S : Type 0} {M : Meaning S} {A : Acking} {opening : View S} {was : List ℕ} {entry now : Outside} {session : S} {had : List Exchange} {text : List ℕ}
-    (so_far : Reached M A opening was entry now session had) (why : Refusal) → A.Tells (reply.No why) text
+pub covers_refused : {S H : Type 0} {M : Meaning S} {C : Conduct S H} {A : Acking} {opening : View S} {was : List ℕ} {entry now : Outside} {session : S} {had : List Exchange} {text : List ℕ}
+    (so_far : Reached M C A opening was entry now session had) (why : Refusal) → A.Tells (reply.No why) text
     → Covers A opening.machine so_far.rows so_far.view.machine None text so_far.view.machine.committed.last so_far.view.machine.committed
-covers_refused {S} {M} {A} {opening} {was} {entry} {now} {text = text} so_far why tells = record {
-  after = inl (committed_last M now was entry.clock [] opening so_far.view so_far.rows so_far.trail);
+covers_refused {S} {H} {M} {C} {A} {opening} {was} {entry} {now} {text = text} so_far why tells = record {
+  after = inl (committed_last M C now was entry.clock [] opening so_far.view so_far.rows so_far.trail);
   front = λ n short. A.front opening.machine.committed.last (output_of so_far.rows) so_far.view.machine.committed.last n (reply.No why) text so_far.even tells short;
   even = A.other opening.machine.committed.last (output_of so_far.rows) so_far.view.machine.committed.last (reply.No why) text so_far.even tells (λ k same. cc);
   closes = λ k u flight. absurd flight;
@@ -158,9 +161,9 @@ shows_sent only shows = shows_fewer only.goes only.disk only.images.back shows
 
 -- ---- the run so far
 
-pub reached_start : {S : Type 0} {M : Meaning S} {A : Acking} {opening : View S} {was : List ℕ} {entry : Outside} {session : S} → IsWorld entry → opening.session ≡ session → Opens M entry opening was
-    → Reached M A opening was entry entry session []
-reached_start {S} {M} {A} {opening} {was} {entry} world same opens = record {
+pub reached_start : {S H : Type 0} {M : Meaning S} {C : Conduct S H} {A : Acking} {opening : View S} {was : List ℕ} {entry : Outside} {session : S} → IsWorld entry → opening.session ≡ session → Opens M entry opening was
+    → Reached M C A opening was entry entry session []
+reached_start {S} {H} {M} {C} {A} {opening} {was} {entry} world same opens = record {
   rows = [];
   view = opening;
   heard = refl;
@@ -182,14 +185,20 @@ reached_start {S} {M} {A} {opening} {was} {entry} world same opens = record {
   });
 }
 
-pub trail_later : {S : Type 0} {M : Meaning S} {A : Acking} {opening : View S} {was : List ℕ} {entry a c : Outside} {session : S} {had : List Exchange} (so_far : Reached M A opening was entry a session had) → IsWorld a → Goes a c
-    → Trail M c was entry.clock [] opening so_far.rows so_far.view
-trail_later {S} {M} {A} {opening} {was} {entry} so_far world goes = rows.trail_later M was entry.clock [] opening so_far.view so_far.rows world goes so_far.trail
+pub trail_later : {S H : Type 0} {M : Meaning S} {C : Conduct S H} {A : Acking} {opening : View S} {was : List ℕ} {entry a c : Outside} {session : S} {had : List Exchange} (so_far : Reached M C A opening was entry a session had) → IsWorld a → Goes a c
+    → Trail M C c was entry.clock [] opening so_far.rows so_far.view
+trail_later {S} {H} {M} {C} {A} {opening} {was} {entry} so_far world goes = rows.trail_later M C was entry.clock [] opening so_far.view so_far.rows world goes so_far.trail
+
+-- The last row was by now.
+rows_by_now : {S H : Type 0} {M : Meaning S} {C : Conduct S H} {A : Acking} {opening : View S} {was : List ℕ} {entry a : Outside} {session : S} {had : List Exchange} (so_far : Reached M C A opening was entry a session had) → IsWorld a
+    → last_time entry.clock so_far.rows ≤ a.clock
+rows_by_now {M = M} {C = C} {opening = opening} {was = was} {entry = entry} so_far world =
+    up_to_now M C was entry.clock [] opening so_far.view so_far.rows world so_far.stops.goes.clock so_far.trail
 
 -- The source was read: the line isn't yet answered.
-pub reached_taken : {S : Type 0} {M : Meaning S} {A : Acking} {opening : View S} {was : List ℕ} {entry a b : Outside} {session : S} {had : List Exchange} → IsWorld a → SourceOnly a b
-    → Reached M A opening was entry a session had → Reached M A opening was entry b session had
-reached_taken {S} {M} {A} {opening} {was} {entry} {a} {b} world only so_far = record {
+pub reached_taken : {S H : Type 0} {M : Meaning S} {C : Conduct S H} {A : Acking} {opening : View S} {was : List ℕ} {entry a b : Outside} {session : S} {had : List Exchange} → IsWorld a → SourceOnly a b
+    → Reached M C A opening was entry a session had → Reached M C A opening was entry b session had
+reached_taken {S} {H} {M} {C} {A} {opening} {was} {entry} {a} {b} world only so_far = record {
   rows = so_far.rows;
   view = so_far.view;
   heard = so_far.heard;
@@ -202,10 +211,10 @@ reached_taken {S} {M} {A} {opening} {was} {entry} {a} {b} world only so_far = re
 }
 
 -- A step was made, whether it gave a reply or not.
-pub stops_step : {S : Type 0} {M : Meaning S} {A : Acking} {opening : View S} {was : List ℕ} {entry a b : Outside} {session : S} {had : List Exchange} (r : Request)
-    (so_far : Reached M A opening was entry a session had) → DiskOnly a b → Leaves a b (StandsDuring M so_far.view.machine r)
+pub stops_step : {S H : Type 0} {M : Meaning S} {C : Conduct S H} {A : Acking} {opening : View S} {was : List ℕ} {entry a b : Outside} {session : S} {had : List Exchange} (r : Request)
+    (so_far : Reached M C A opening was entry a session had) → DiskOnly a b → Leaves a b (StandsDuring M so_far.view.machine r)
     → Along entry b (IsRunMoment M A opening.machine so_far.rows so_far.view.machine (Some r) was)
-stops_step {S} {M} {A} {opening} {was} {entry} {a} {b} r so_far only leaves =
+stops_step {S} {H} {M} {C} {A} {opening} {was} {entry} {a} {b} r so_far only leaves =
     along_disk (IsRunMoment M A opening.machine so_far.rows so_far.view.machine (Some r) was) (StandsDuring M so_far.view.machine r)
     (along_wider (IsRunMoment M A opening.machine so_far.rows so_far.view.machine None was) (IsRunMoment M A opening.machine so_far.rows so_far.view.machine (Some r) was) so_far.stops begun)
     only leaves during
@@ -232,7 +241,7 @@ stops_step {S} {M} {A} {opening} {was} {entry} {a} {b} r so_far only leaves =
         (λ old. record {
           number = so_far.view.machine.committed.last;
           table = so_far.view.machine.committed;
-          after = inl (committed_last M a was entry.clock [] opening so_far.view so_far.rows so_far.trail);
+          after = inl (committed_last M C a was entry.clock [] opening so_far.view so_far.rows so_far.trail);
           stands = old;
           more = output_of so_far.rows;
           sent = whole s sent;
@@ -261,26 +270,28 @@ shows_now M {c} sent v world is shows = record {
 abbrev row_now : {S : Type 0} → Outside → Exchange → Pick → View S → Row S
 row_now c had pick view = record { had = had; pick = pick; view = view; time = c.clock }
 
-reached_more : {S : Type 0} {M : Meaning S} {A : Acking} {opening : View S} {was : List ℕ} {entry a b c : Outside} {session now_session : S} {had : List Exchange}
-    (so_far : Reached M A opening was entry a session had) (last : Exchange) (pick : Pick) (view : View S) (asked : Option Request)
-    → StepsTo M so_far.view last.reading pick last.told view → view.session ≡ now_session → ShowsNow M b view → IsWorld a → Goes a b
+reached_more : {S H : Type 0} {M : Meaning S} {C : Conduct S H} {A : Acking} {opening : View S} {was : List ℕ} {entry a b c : Outside} {session now_session : S} {had : List Exchange}
+    (so_far : Reached M C A opening was entry a session had) (last : Exchange) (pick : Pick) (view : View S) (asked : Option Request)
+    → StepsTo M so_far.view last.reading pick last.told view → LineKept M C (last_time entry.clock so_far.rows) c.clock c so_far.view last.reading last.told view
+    → view.session ≡ now_session → ShowsNow M b view → IsWorld a → Goes a b
     → Covers A opening.machine so_far.rows so_far.view.machine asked last.text view.machine.committed.last view.machine.committed
     → IsWorld c → SinkOnly b c → c.sent ≡ Some (was ++ output_of so_far.rows ++ last.text)
     → Along entry c (IsRunMoment M A opening.machine so_far.rows so_far.view.machine asked was)
-    → Reached M A opening was entry c now_session (had ++ last ∷ [])
-reached_more {S} {M} {A} {opening} {was} {entry} {a} {b} {c} {session} {now_session} {had} so_far last pick view asked steps is shows early goes covers world only sent along =
+    → Reached M C A opening was entry c now_session (had ++ last ∷ [])
+reached_more {S} {H} {M} {C} {A} {opening} {was} {entry} {a} {b} {c} {session} {now_session} {had} so_far last pick view asked steps kept is shows early goes covers world only sent along =
     let row : Row S = row_now c last pick view in
     let now_shows : ShowsNow M c view = shows_sent only shows in
     let whole : was ++ output_of so_far.rows ++ last.text ≡ was ++ (output_of so_far.rows ++ last.text) = append_assoc was (output_of so_far.rows) last.text in
     let later : Goes a c = goes_trans goes only.goes in
-    let before : last_time entry.clock so_far.rows ≤ a.clock = up_to_now M was entry.clock [] opening so_far.view so_far.rows early so_far.stops.goes.clock so_far.trail in
+    let before : last_time entry.clock so_far.rows ≤ a.clock = rows_by_now so_far early in
     record {
       rows = so_far.rows ++ row ∷ [];
       view = view;
       heard = exchanges_more so_far.rows row ∙ ap (λ (l : List Exchange). l ++ last ∷ []) so_far.heard;
       sent = sent ∙ ap (λ (l : List ℕ). Some l) (whole ∙ ap (λ (l : List ℕ). was ++ l) (sym (output_more so_far.rows row)));
-      trail = trail_more M c was entry.clock [] opening so_far.view so_far.rows row (trail_later so_far early later) (record {
+      trail = trail_more M C c was entry.clock [] opening so_far.view so_far.rows row (trail_later so_far early later) (record {
         steps = steps;
+        kept = kept;
         later = omega (arith, before, later.clock);
         shown = shows_now M (was ++ (output_of so_far.rows ++ last.text)) view world (sent ∙ ap (λ (l : List ℕ). Some l) whole) now_shows;
       });
@@ -307,53 +318,54 @@ reached_more {S} {M} {A} {opening} {was} {entry} {a} {b} {c} {session} {now_sess
       may = moment.may;
     }
 
-along_step : {S : Type 0} {M : Meaning S} {A : Acking} {opening : View S} {was : List ℕ} {entry a b c : Outside} {session now_session : S} {had : List Exchange} {r : Request} {told : Reply} {text : List ℕ}
-    (so_far : Reached M A opening was entry a session had) (stepped : Stepped M so_far.view r told now_session b)
+along_step : {S H : Type 0} {M : Meaning S} {C : Conduct S H} {A : Acking} {opening : View S} {was : List ℕ} {entry a b c : Outside} {session now_session : S} {had : List Exchange} {r : Request} {told : Reply} {text : List ℕ}
+    (so_far : Reached M C A opening was entry a session had) (stepped : Stepped M so_far.view r told now_session b)
     → A.Tells told text → DiskOnly a b → Leaves a b (StandsDuring M so_far.view.machine r) → (n : ℕ) → SentFront b c text n
     → Along entry c (IsRunMoment M A opening.machine so_far.rows so_far.view.machine (Some r) was)
-along_step {S} {M} {A} {opening} {was} {entry} {a} {b} {c} {session} {now_session} {had} {r} {told} {text} so_far stepped tells only leaves n sending =
+along_step {S} {H} {M} {C} {A} {opening} {was} {entry} {a} {b} {c} {session} {now_session} {had} {r} {told} {text} so_far stepped tells only leaves n sending =
     along_sending M A opening.machine so_far.rows so_far.view.machine (Some r) was text stepped.after.machine.committed.last stepped.after.machine.committed n
     (covers_step so_far stepped tells) (λ d here. M.stands b.images stepped.after d stepped.shows.shows here)
     (only.sent ∙ so_far.sent) (sending.sent (was ++ output_of so_far.rows) (only.sent ∙ so_far.sent)) sending.only
     (stops_step r so_far only leaves)
 
 -- the reply of a step from what was reached
-pub reply_of_step : {S : Type 0} {M : Meaning S} {A : Acking} {opening : View S} {was : List ℕ} {entry a b : Outside} {session now_session : S} {had : List Exchange} {r : Request} {told : Reply}
-    (so_far : Reached M A opening was entry a session had) → IsTrue (is_request r) → Stepped M so_far.view r told now_session b → IsReply told
-reply_of_step {S} {M} {A} {opening} {was} {entry} {a} {b} {session} {now_session} {had} {r} {told} so_far formed stepped =
+pub reply_of_step : {S H : Type 0} {M : Meaning S} {C : Conduct S H} {A : Acking} {opening : View S} {was : List ℕ} {entry a b : Outside} {session now_session : S} {had : List Exchange} {r : Request} {told : Reply}
+    (so_far : Reached M C A opening was entry a session had) → IsTrue (is_request r) → Stepped M so_far.view r told now_session b → IsReply told
+reply_of_step {S} {H} {M} {C} {A} {opening} {was} {entry} {a} {b} {session} {now_session} {had} {r} {told} so_far formed stepped =
     talking.stepped so_far.view.machine r (M.pick so_far.view r stepped.after) stepped.after.machine (M.rules a.images so_far.view so_far.shows.shows) formed stepped.step
 
-pub reached_answered : {S : Type 0} {M : Meaning S} {A : Acking} {opening : View S} {was : List ℕ} {entry a b c : Outside} {session now_session : S} {had : List Exchange} {r : Request} {told : Reply} {text : List ℕ}
-    (so_far : Reached M A opening was entry a session had) → A.Tells told text → Stepped M so_far.view r told now_session b
+pub reached_answered : {S H : Type 0} {M : Meaning S} {C : Conduct S H} {A : Acking} {opening : View S} {was : List ℕ} {entry a b c : Outside} {session now_session : S} {had : List Exchange} {r : Request} {told : Reply} {text : List ℕ}
+    (so_far : Reached M C A opening was entry a session had) → A.Tells told text → (stepped : Stepped M so_far.view r told now_session b) → LineKept M C a.clock b.clock b so_far.view (Asks r) told stepped.after
     → IsWorld a → DiskOnly a b → Leaves a b (StandsDuring M so_far.view.machine r) → IsWorld c → SentFront b c text (length text)
-    → Reached M A opening was entry c now_session (had ++ record { reading = Asks r; told = told; text = text } ∷ [])
-reached_answered {S} {M} {A} {opening} {was} {entry} {a} {b} {c} {session} {now_session} {had} {r} {told} {text} so_far tells stepped early only leaves world sending =
-    reached_more so_far (record { reading = Asks r; told = told; text = text }) (M.pick so_far.view r stepped.after) stepped.after (Some r) (stepped.step, refl) stepped.is stepped.shows early only.goes (covers_step so_far stepped tells) world sending.only
+    → Reached M C A opening was entry c now_session (had ++ record { reading = Asks r; told = told; text = text } ∷ [])
+reached_answered {S} {H} {M} {C} {A} {opening} {was} {entry} {a} {b} {c} {session} {now_session} {had} {r} {told} {text} so_far tells stepped kept early only leaves world sending =
+    reached_more so_far (record { reading = Asks r; told = told; text = text }) (M.pick so_far.view r stepped.after) stepped.after (Some r) (stepped.step, refl)
+    (line_kept_within (rows_by_now so_far early) sending.only.goes.clock sending.only.goes kept) stepped.is stepped.shows early only.goes (covers_step so_far stepped tells) world sending.only
     (sending.sent (was ++ output_of so_far.rows) (only.sent ∙ so_far.sent) ∙ ap (λ (l : List ℕ). Some (was ++ output_of so_far.rows ++ l)) (take-length text))
     (along_step so_far stepped tells only leaves (length text) sending)
 
-along_refusal : {S : Type 0} {M : Meaning S} {A : Acking} {opening : View S} {was : List ℕ} {entry a c : Outside} {session : S} {had : List Exchange} {text : List ℕ}
-    (so_far : Reached M A opening was entry a session had) (why : Refusal) → A.Tells (reply.No why) text → (n : ℕ) → SentFront a c text n
+along_refusal : {S H : Type 0} {M : Meaning S} {C : Conduct S H} {A : Acking} {opening : View S} {was : List ℕ} {entry a c : Outside} {session : S} {had : List Exchange} {text : List ℕ}
+    (so_far : Reached M C A opening was entry a session had) (why : Refusal) → A.Tells (reply.No why) text → (n : ℕ) → SentFront a c text n
     → Along entry c (IsRunMoment M A opening.machine so_far.rows so_far.view.machine None was)
-along_refusal {S} {M} {A} {opening} {was} {entry} {a} {c} {text = text} so_far why tells n sending =
+along_refusal {S} {H} {M} {C} {A} {opening} {was} {entry} {a} {c} {text = text} so_far why tells n sending =
     along_sending M A opening.machine so_far.rows so_far.view.machine None was text so_far.view.machine.committed.last so_far.view.machine.committed n
     (covers_refused so_far why tells) (λ d here. M.stands a.images so_far.view d so_far.shows.shows here)
     so_far.sent (sending.sent (was ++ output_of so_far.rows) so_far.sent) sending.only so_far.stops
 
-pub reached_refused : {S : Type 0} {M : Meaning S} {A : Acking} {opening : View S} {was : List ℕ} {entry a c : Outside} {session : S} {had : List Exchange} {text : List ℕ}
-    (so_far : Reached M A opening was entry a session had) (why : Refusal) → A.Tells (reply.No why) text → IsWorld a → IsWorld c → SentFront a c text (length text)
-    → Reached M A opening was entry c session (had ++ record { reading = Fails why; told = reply.No why; text = text } ∷ [])
-reached_refused {S} {M} {A} {opening} {was} {entry} {a} {c} {text = text} so_far why tells early world sending =
-    reached_more so_far (record { reading = Fails why; told = reply.No why; text = text }) no_pick so_far.view None (refl, refl) so_far.is so_far.shows early (goes_refl a) (covers_refused so_far why tells) world sending.only
+pub reached_refused : {S H : Type 0} {M : Meaning S} {C : Conduct S H} {A : Acking} {opening : View S} {was : List ℕ} {entry a c : Outside} {session : S} {had : List Exchange} {text : List ℕ}
+    (so_far : Reached M C A opening was entry a session had) (why : Refusal) → A.Tells (reply.No why) text → IsWorld a → IsWorld c → SentFront a c text (length text)
+    → Reached M C A opening was entry c session (had ++ record { reading = Fails why; told = reply.No why; text = text } ∷ [])
+reached_refused {S} {H} {M} {C} {A} {opening} {was} {entry} {a} {c} {text = text} so_far why tells early world sending =
+    reached_more so_far (record { reading = Fails why; told = reply.No why; text = text }) no_pick so_far.view None (refl, refl) tt so_far.is so_far.shows early (goes_refl a) (covers_refused so_far why tells) world sending.only
     (sending.sent (was ++ output_of so_far.rows) so_far.sent ∙ ap (λ (l : List ℕ). Some (was ++ output_of so_far.rows ++ l)) (take-length text))
     (along_refusal so_far why tells (length text) sending)
 
 -- ---- the run was cut short
 
 -- before a line was taken
-pub cut_taken : {S : Type 0} {M : Meaning S} {A : Acking} (text : Reply → List ℕ) {opening : View S} {was : List ℕ} {entry a : Outside} {session : S} {had : List Exchange} → Reached M A opening was entry a session had
-    → (why : Stopped) → CutShort M A text opening was entry a had None why
-cut_taken text {was = was} so_far why = record {
+pub cut_taken : {S H : Type 0} {M : Meaning S} {C : Conduct S H} {A : Acking} (text : Reply → List ℕ) {opening : View S} {was : List ℕ} {entry a : Outside} {session : S} {had : List Exchange} → Reached M C A opening was entry a session had
+    → (why : Stopped) → IsTakingStop why → CutShort M C A text opening was entry a had None why
+cut_taken text {was = was} so_far why taking = record {
   rows = so_far.rows;
   view = so_far.view;
   heard = so_far.heard;
@@ -362,14 +374,15 @@ cut_taken text {was = was} so_far why = record {
   is_front = refl;
   uncut = λ other. refl;
   trail = so_far.trail;
+  kept = inl (inl taking);
   stops = so_far.stops;
 }
 
 -- in a line's step
-pub cut_step : {S : Type 0} {M : Meaning S} {A : Acking} (text : Reply → List ℕ) {opening : View S} {was : List ℕ} {entry a b : Outside} {session : S} {had : List Exchange} (r : Request)
-    (so_far : Reached M A opening was entry a session had) → IsWorld a → DiskOnly a b → Leaves a b (StandsDuring M so_far.view.machine r)
-    → (why : Stopped) → CutShort M A text opening was entry b had (Some (Asks r)) why
-cut_step text {was = was} r so_far early only leaves why = record {
+pub cut_step : {S H : Type 0} {M : Meaning S} {C : Conduct S H} {A : Acking} (text : Reply → List ℕ) {opening : View S} {was : List ℕ} {entry a b : Outside} {session : S} {had : List Exchange} (r : Request)
+    (so_far : Reached M C A opening was entry a session had) → IsWorld a → DiskOnly a b → Leaves a b (StandsDuring M so_far.view.machine r)
+    → (why : Stopped) (stop : Stop) (now_session : S) → Some why ≡ stop_as stop → StepKept M C a.clock b.clock b so_far.view r (Err stop) now_session → CutShort M C A text opening was entry b had (Some (Asks r)) why
+cut_step text {was = was} {b = b} r so_far early only leaves why stop now_session is kept = record {
   rows = so_far.rows;
   view = so_far.view;
   heard = so_far.heard;
@@ -378,6 +391,7 @@ cut_step text {was = was} r so_far early only leaves why = record {
   is_front = inl refl;
   uncut = λ other. refl;
   trail = trail_later so_far early only.goes;
+  kept = record { result = Err stop; session = now_session; ends = is; kept = step_kept_within (rows_by_now so_far early) (omega arith) (goes_refl b) kept; stepped = tt };
   stops = stops_step r so_far only leaves;
 }
 
@@ -391,12 +405,13 @@ front_sent M text before reading pick told view steps {why} sending = ⊎_elim
     sending.cut
 
 -- while a reply was told
-pub cut_answered : {S : Type 0} {M : Meaning S} {A : Acking} (text : Reply → List ℕ) {opening : View S} {was : List ℕ} {entry a b c : Outside} {session now_session : S} {had : List Exchange} {r : Request} {told : Reply}
-    (so_far : Reached M A opening was entry a session had) → A.Tells told (text told) → Stepped M so_far.view r told now_session b
-    → IsWorld a → DiskOnly a b → Leaves a b (StandsDuring M so_far.view.machine r) → (why : Stopped) → SentPart why b c (text told)
-    → CutShort M A text opening was entry c had (Some (Asks r)) why
-cut_answered {S} {M} text {was = was} {r = r} {told = told} so_far tells stepped early only leaves why sending =
-    let front = front_sent M text so_far.view (Asks r) (M.pick so_far.view r stepped.after) told stepped.after (stepped.step, refl) sending in record {
+pub cut_answered : {S H : Type 0} {M : Meaning S} {C : Conduct S H} {A : Acking} (text : Reply → List ℕ) {opening : View S} {was : List ℕ} {entry a b c : Outside} {session now_session : S} {had : List Exchange} {r : Request} {told : Reply}
+    (so_far : Reached M C A opening was entry a session had) → A.Tells told (text told) → (stepped : Stepped M so_far.view r told now_session b) → LineKept M C a.clock b.clock b so_far.view (Asks r) told stepped.after
+    → IsWorld a → DiskOnly a b → Leaves a b (StandsDuring M so_far.view.machine r) → (why : Stopped) → IsSendingStop why → SentPart why b c (text told)
+    → CutShort M C A text opening was entry c had (Some (Asks r)) why
+cut_answered {S} {H} {M} {C} text {was = was} {r = r} {told = told} so_far tells stepped kept early only leaves why stops sending =
+    let front = front_sent M text so_far.view (Asks r) (M.pick so_far.view r stepped.after) told stepped.after (stepped.step, refl) sending in
+    let line = line_kept_within (rows_by_now so_far early) sending.front.only.goes.clock sending.front.only.goes kept in record {
       rows = so_far.rows;
       view = so_far.view;
       heard = so_far.heard;
@@ -405,13 +420,20 @@ cut_answered {S} {M} text {was = was} {r = r} {told = told} so_far tells stepped
       is_front = front.0;
       uncut = front.1;
       trail = trail_later so_far early (goes_trans only.goes sending.front.only.goes);
+      kept = record {
+        result = Ok told;
+        session = stepped.after.session;
+        ends = stops;
+        kept = line.0;
+        stepped = record { after = stepped.after; is = refl; shows = line.1; step = stepped.step };
+      };
       stops = along_step so_far stepped tells only leaves sending.n sending.front;
     }
 
-pub cut_refused : {S : Type 0} {M : Meaning S} {A : Acking} (text : Reply → List ℕ) {opening : View S} {was : List ℕ} {entry a c : Outside} {session : S} {had : List Exchange}
-    (so_far : Reached M A opening was entry a session had) (refusal : Refusal) → A.Tells (reply.No refusal) (text (reply.No refusal)) → IsWorld a
-    → (why : Stopped) → SentPart why a c (text (reply.No refusal)) → CutShort M A text opening was entry c had (Some (Fails refusal)) why
-cut_refused {S} {M} text {was = was} so_far refusal tells early why sending =
+pub cut_refused : {S H : Type 0} {M : Meaning S} {C : Conduct S H} {A : Acking} (text : Reply → List ℕ) {opening : View S} {was : List ℕ} {entry a c : Outside} {session : S} {had : List Exchange}
+    (so_far : Reached M C A opening was entry a session had) (refusal : Refusal) → A.Tells (reply.No refusal) (text (reply.No refusal)) → IsWorld a
+    → (why : Stopped) → IsSendingStop why → SentPart why a c (text (reply.No refusal)) → CutShort M C A text opening was entry c had (Some (Fails refusal)) why
+cut_refused {S} {H} {M} {C} text {was = was} so_far refusal tells early why stops sending =
     let front = front_sent M text so_far.view (Fails refusal) no_pick (reply.No refusal) so_far.view (refl, refl) sending in record {
       rows = so_far.rows;
       view = so_far.view;
@@ -421,31 +443,32 @@ cut_refused {S} {M} text {was = was} so_far refusal tells early why sending =
       is_front = front.0;
       uncut = front.1;
       trail = trail_later so_far early sending.front.only.goes;
+      kept = inl (inr stops);
       stops = along_refusal so_far refusal tells sending.n sending.front;
     }
 
 -- ---- the end of the lines
 
 -- The third sentence holds on over calls on the disk that leave the committed table.
-pub stops_kept : {S : Type 0} {M : Meaning S} {A : Acking} {opening : View S} {was : List ℕ} {entry a b : Outside} {session : S} {had : List Exchange}
-    (so_far : Reached M A opening was entry a session had) → DiskOnly a b → Leaves a b (λ d. M.StandsFor d so_far.view.machine.committed)
+pub stops_kept : {S H : Type 0} {M : Meaning S} {C : Conduct S H} {A : Acking} {opening : View S} {was : List ℕ} {entry a b : Outside} {session : S} {had : List Exchange}
+    (so_far : Reached M C A opening was entry a session had) → DiskOnly a b → Leaves a b (λ d. M.StandsFor d so_far.view.machine.committed)
     → Along entry b (IsRunMoment M A opening.machine so_far.rows so_far.view.machine None was)
-stops_kept {S} {M} {A} {opening} {was} {entry} {a} {b} so_far only leaves =
+stops_kept {S} {H} {M} {C} {A} {opening} {was} {entry} {a} {b} so_far only leaves =
     along_disk (IsRunMoment M A opening.machine so_far.rows so_far.view.machine None was) (λ d. M.StandsFor d so_far.view.machine.committed) so_far.stops only leaves
     (λ s d sent stands. record {
       number = so_far.view.machine.committed.last;
       table = so_far.view.machine.committed;
-      after = inl (committed_last M a was entry.clock [] opening so_far.view so_far.rows so_far.trail);
+      after = inl (committed_last M C a was entry.clock [] opening so_far.view so_far.rows so_far.trail);
       stands = stands;
       more = output_of so_far.rows;
       sent = same_Some s (was ++ output_of so_far.rows) (sym sent ∙ so_far.sent);
       may = A.now opening.machine.committed.last (output_of so_far.rows) so_far.view.machine.committed.last so_far.even;
     })
 
-pub cut_ending : {S : Type 0} {M : Meaning S} {A : Acking} (text : Reply → List ℕ) {opening : View S} {was : List ℕ} {entry a b : Outside} {session : S} {had : List Exchange}
-    (so_far : Reached M A opening was entry a session had) → IsWorld a → DiskOnly a b → Leaves a b (λ d. M.StandsFor d so_far.view.machine.committed) → (why : Stopped)
-    → CutShort M A text opening was entry b had None why
-cut_ending text {was = was} so_far early only leaves why = record {
+pub cut_ending : {S H : Type 0} {M : Meaning S} {C : Conduct S H} {A : Acking} (text : Reply → List ℕ) {opening : View S} {was : List ℕ} {entry a b : Outside} {session : S} {had : List Exchange}
+    (so_far : Reached M C A opening was entry a session had) → IsWorld a → DiskOnly a b → Leaves a b (λ d. M.StandsFor d so_far.view.machine.committed) → (why : Stopped) (stop : Stop) (now_session : S)
+    → Some why ≡ stop_as stop → StepKept M C a.clock b.clock b so_far.view Abort (Err stop) now_session → CutShort M C A text opening was entry b had None why
+cut_ending text {was = was} {b = b} so_far early only leaves why stop now_session is kept = record {
   rows = so_far.rows;
   view = so_far.view;
   heard = so_far.heard;
@@ -454,5 +477,31 @@ cut_ending text {was = was} so_far early only leaves why = record {
   is_front = refl;
   uncut = λ other. refl;
   trail = trail_later so_far early only.goes;
+  kept = inr (record { stop = stop; session = now_session; is = is; kept = step_kept_within (rows_by_now so_far early) (omega arith) (goes_refl b) kept });
   stops = stops_kept so_far only leaves;
 }
+
+-- The abort at the end replied.
+pub aborted : {S H : Type 0} {M : Meaning S} {C : Conduct S H} {since : ℕ} {b : Outside} {before : View S} {told : Reply} {now_session : S} (stepped : Stepped M before Abort told now_session b)
+    → LineKept M C since b.clock b before (Asks Abort) told stepped.after → Ended M C since before b
+aborted {told = told} stepped kept = record {
+  after = stepped.after;
+  told = told;
+  step = stepped.step;
+  kept = kept.0;
+  left = kept.1;
+  shows = stepped.shows;
+}
+
+-- The abort at the end came after the last row.
+pub ended_after_rows : {S H : Type 0} {M : Meaning S} {C : Conduct S H} {A : Acking} {opening : View S} {was : List ℕ} {entry a b : Outside} {session : S} {had : List Exchange} (so_far : Reached M C A opening was entry a session had)
+    → IsWorld a → Ended M C a.clock so_far.view b → Ended M C (last_time entry.clock so_far.rows) so_far.view b
+ended_after_rows {b = b} so_far early ended =
+    let line = line_kept_within {after = ended.after} (rows_by_now so_far early) (omega arith) (goes_refl b) (ended.kept, ended.left) in record {
+      after = ended.after;
+      told = ended.told;
+      step = ended.step;
+      kept = line.0;
+      left = line.1;
+      shows = ended.shows;
+    }

@@ -6,8 +6,9 @@ use Rattle.std.proofs.lemmas.List.{append-nil}
 use Rattle.std.proofs.lemmas.Option.{same_Some}
 use Rattle.ex_base.specs.declared.names.PageNo.{PageNo}
 use Rattle.ex_base.specs.declared.faults.Seen.{Seen}
-use Rattle.disk_model.specs.Outside.{Outside, Rose, Goes}
-use Rattle.disk_model.specs.Runs.{sink_refl}
+use Rattle.disk_model.specs.Outside.{Outside, Rose, DiskOnly, Goes}
+use Rattle.disk_model.specs.Runs.{goes_refl, goes_trans, sink_refl}
+use Rattle.table_model.specs.Requests.{Request}
 use Rattle.session_views.specs.declared.Part.{Part}
 use Rattle.session_views.specs.declared.Stop.{Stop}
 use Rattle.session_views.specs.declared.Stop.TheVariants as stop
@@ -15,6 +16,8 @@ use Rattle.session_views.specs.declared.OpenFault.{OpenFault}
 use Rattle.session_views.specs.declared.OpenFault.TheVariants as open_fault
 use Rattle.talks.specs.declared.stopped.Stopped.{Stopped}
 use Rattle.talks.specs.declared.stopped.Stopped.TheVariants.{Script, Output, Disk, Memory, BadVolume, Damaged, ScriptLong}
+use Rattle.engines.specs.Keeping.{Conduct}
+use Rattle.talks.specs.Passage.{ByDamagedStep}
 use Rattle.talks.specs.Sending.{SentPart}
 use Rattle.talks.specs.Stops.{stop_as, unopened_as, CausedBy, IsSoundStop, IsOpeningStop, IsSessionStop, IsTakingStop, IsSendingStop, IsLinesStop, IsPart}
 
@@ -128,6 +131,53 @@ caused_later Memory a b c goes caused = tt
 caused_later (BadVolume part) a b c goes caused = tt
 caused_later (Damaged page want got) a b c goes caused = caused
 caused_later ScriptLong a b c goes caused = tt
+
+-- ---- a damaged page
+
+-- Neither an opening, nor the taking of a line, nor the sending of a reply finds one.
+pub opening_undamaged : {S H : Type 0} (C : Conduct S H) (a b : Outside) (why : Stopped) → IsOpeningStop why → ByDamagedStep C a b why
+opening_undamaged C a b why stops page want got is = absurd (subst IsOpeningStop is stops)
+
+pub taking_undamaged : {S H : Type 0} (C : Conduct S H) (a b : Outside) (why : Stopped) → IsTakingStop why → ByDamagedStep C a b why
+taking_undamaged C a b why stops page want got is = absurd (subst IsTakingStop is stops)
+
+pub sending_undamaged : {S H : Type 0} (C : Conduct S H) (a b : Outside) (why : Stopped) → IsSendingStop why → ByDamagedStep C a b why
+sending_undamaged C a b why stops page want got is = absurd (subst IsSendingStop is stops)
+
+-- A step that stopped found it.
+pub session_damaged : {S H : Type 0} (C : Conduct S H) {a : Outside} {session then : S} (r : Request) (from to : H) (s : Stop) (why : Stopped) → Some why ≡ stop_as s → Goes a (C.outside from)
+    → DiskOnly (C.outside from) (C.outside to) → C.Keeps session then (C.outside from) (C.outside to) r (Err s) → ByDamagedStep C a (C.outside to) why
+session_damaged C r from to stop.Memory why is goes only kept page want got told = absurd (cc)
+session_damaged C r from to stop.Disk why is goes only kept page want got told = absurd (cc)
+session_damaged C {a} {session} {then} r from to (stop.Damaged p w g) why is goes only kept page want got told =
+    let both : Damaged p w g ≡ Damaged page want got = sym (same_Some why (Damaged p w g) is) ∙ told in
+    let same : stop.Damaged p w g ≡ stop.Damaged page want got = cc in record {
+      session = session;
+      then = then;
+      asked = r;
+      from = from;
+      to = to;
+      earlier = goes;
+      only = only;
+      later = goes_refl (C.outside to);
+      kept = subst (λ (x : Stop). C.Keeps session then (C.outside from) (C.outside to) r (Err x)) same kept;
+    }
+session_damaged C r from to stop.Down why is goes only kept page want got told = absurd (cc)
+
+-- It was found since each earlier time.
+pub damaged_since : {S H : Type 0} (C : Conduct S H) {a b c : Outside} (why : Stopped) → Goes a b → ByDamagedStep C b c why → ByDamagedStep C a c why
+damaged_since C why goes by page want got is =
+    let step = by page want got is in record {
+      session = step.session;
+      then = step.then;
+      asked = step.asked;
+      from = step.from;
+      to = step.to;
+      earlier = goes_trans goes step.earlier;
+      only = step.only;
+      later = step.later;
+      kept = step.kept;
+    }
 
 -- Nothing was sent.
 pub none_sent : (w : Outside) (text : List ℕ) (why : Stopped) → SentPart why w w text

@@ -14,16 +14,18 @@ use Rattle.session_views.specs.declared.OpenFault.TheVariants as open_fault
 use Rattle.session_views.specs.declared.Part.{Part}
 use Rattle.session_views.specs.View.{View, Meaning}
 use Rattle.session_views.specs.Opening.{StandsOpening}
+use Rattle.engines.specs.Keeping.{Conduct}
 use Rattle.talks.specs.Opening.{Opened}
 use Rattle.talks.specs.Acking.{Acking}
 use Rattle.talks.specs.Headline.{HoldsTable, RunOn, RunStarts, OpenedAt, SteppedTalk, Unopened}
+use Rattle.talks.specs.Passage.{ByDamagedStep}
 use Rattle.talks.specs.Stops.{CausedBy, IsLinesStop, IsOpeningStop, IsSoundStop, unopened_as}
 use Rattle.talks.specs.Talking.{Exchange, Talking}
 use Rattle.talks.specs.Transcript.{Row, Committed, IsRunMoment, Opens, Reached, CutShort, Ended, output_of, request_in}
 use Rattle.talks.specs.declared.stopped.Stopped.{Stopped}
-use Rattle.talks.proofs.Going.{shows_now, stops_kept, trail_later}
+use Rattle.talks.proofs.Going.{ended_after_rows, shows_now, stops_kept, trail_later}
 use Rattle.talks.proofs.Rows.{shows_at_later}
-use Rattle.talks.proofs.Stopping.{bad_part, opening_caused, opening_sound, opening_stop, stop_is, lines_good}
+use Rattle.talks.proofs.Stopping.{bad_part, opening_caused, opening_sound, opening_stop, opening_undamaged, stop_is, lines_good}
 
 -- one run after the other
 along_trans : {a b c : Outside} (P : List ℕ → List ℕ → Type 0) → Along a b P → Along b c P → Along a c P
@@ -112,11 +114,11 @@ opened_at {M = M} {was = was} starts only mid_world goes opened = record {
 
 -- ---- the whole run
 
-pub stepped_whole : {S T : Type 0} {M : Meaning S} {Fresh : View S → Type 0} (K : Talking T) (first talk : T) {entry mid end now : Outside} {session now_session : S} {table : Table} {was : List ℕ} {had : List Exchange} → IsWorld entry → IsWorld mid → IsWorld end
+pub stepped_whole : {S H T : Type 0} {M : Meaning S} {C : Conduct S H} {Fresh : View S → Type 0} (K : Talking T) (first talk : T) {entry mid end now : Outside} {session now_session : S} {table : Table} {was : List ℕ} {had : List Exchange} → IsWorld entry → IsWorld mid → IsWorld end
     → (starts : RunStarts M entry table was) → DiskOnly entry mid → Leaves entry mid (λ d. M.StandsFor d table) → (opened : Opened M Fresh table session mid)
-    → (so_far : Reached M K.acking opened.view was mid end now_session had) → DiskOnly end now → Leaves end now (λ d. M.StandsFor d so_far.view.machine.committed)
-    → Ended M so_far.view now → K.Over first entry.left had talk now.left → SteppedTalk M Fresh K first talk table was entry now None
-stepped_whole {S} {T} {M} {Fresh} K first talk {entry} {mid} {end} {now} {session} {now_session} {table} {was} {had} world mid_world end_world starts only leaves opened so_far end_only end_leaves ended over =
+    → (so_far : Reached M C K.acking opened.view was mid end now_session had) → DiskOnly end now → Leaves end now (λ d. M.StandsFor d so_far.view.machine.committed)
+    → Ended M C end.clock so_far.view now → K.Over first entry.left had talk now.left → SteppedTalk M C Fresh K first talk table was entry now None
+stepped_whole {S} {H} {T} {M} {C} {Fresh} K first talk {entry} {mid} {end} {now} {session} {now_session} {table} {was} {had} world mid_world end_world starts only leaves opened so_far end_only end_leaves ended over =
     let stops = stops_kept so_far end_only end_leaves in record {
       opening = opened.view;
       time = mid.clock;
@@ -131,14 +133,15 @@ stepped_whole {S} {T} {M} {Fresh} K first talk {entry} {mid} {end} {now} {sessio
       is_front = refl;
       uncut = λ other. refl;
       trail = trail_later so_far end_world end_only.goes;
-      ended = λ end. ended;
+      kept = tt;
+      ended = λ is. ended_after_rows so_far end_world ended;
       stops = stops_open K.acking world starts only leaves opened so_far.rows so_far.view.machine None stops;
     }
 
-pub stepped_cut : {S T : Type 0} {M : Meaning S} {Fresh : View S → Type 0} (K : Talking T) (first talk at : T) {entry mid now : Outside} {session : S} {table : Table} {was : List ℕ} {had : List Exchange} {last : Option Reading} → IsWorld entry → IsWorld mid
+pub stepped_cut : {S H T : Type 0} {M : Meaning S} {C : Conduct S H} {Fresh : View S → Type 0} (K : Talking T) (first talk at : T) {entry mid now : Outside} {session : S} {table : Table} {was : List ℕ} {had : List Exchange} {last : Option Reading} → IsWorld entry → IsWorld mid
     → (starts : RunStarts M entry table was) → DiskOnly entry mid → Leaves entry mid (λ d. M.StandsFor d table) → (opened : Opened M Fresh table session mid) (why : Stopped)
-    → CutShort M K.acking (K.text at) opened.view was mid now had last why → K.Broken first entry.left had last why at now.left → SteppedTalk M Fresh K first talk table was entry now (Some why)
-stepped_cut {S} {T} {M} {Fresh} K first talk at {entry} {mid} {now} {session} {table} {was} {had} {last} world mid_world starts only leaves opened why cut broken = record {
+    → CutShort M C K.acking (K.text at) opened.view was mid now had last why → K.Broken first entry.left had last why at now.left → SteppedTalk M C Fresh K first talk table was entry now (Some why)
+stepped_cut {S} {H} {T} {M} {C} {Fresh} K first talk at {entry} {mid} {now} {session} {table} {was} {had} {last} world mid_world starts only leaves opened why cut broken = record {
   opening = opened.view;
   time = mid.clock;
   opened = opened_at starts only mid_world cut.stops.goes opened;
@@ -152,6 +155,7 @@ stepped_cut {S} {T} {M} {Fresh} K first talk at {entry} {mid} {now} {session} {t
   is_front = cut.is_front;
   uncut = λ other. cut.uncut (λ same. other (ap (λ (w : Stopped). Some w) same));
   trail = cut.trail;
+  kept = cut.kept;
   ended = λ end. absurd (cc);
   stops = stops_open K.acking world starts only leaves opened cut.rows cut.view.machine (request_in last) cut.stops;
 }
@@ -159,13 +163,14 @@ stepped_cut {S} {T} {M} {Fresh} K first talk at {entry} {mid} {now} {session} {t
 -- ---- what becomes of the disk, and why a run was stopped
 
 -- The volume wasn't opened.
-pub run_unopened : {S : Type 0} {M : Meaning S} {a b : Outside} (fault : OpenFault) → (fault ≡ open_fault.Disk → Rose a.disk_faults b.disk_faults)
+pub run_unopened : {S H : Type 0} {M : Meaning S} {C : Conduct S H} {a b : Outside} (fault : OpenFault) → (fault ≡ open_fault.Disk → Rose a.disk_faults b.disk_faults)
     → ((part : Part) → fault ≡ open_fault.BadVolume part → (image : List ℕ) → a.disk ≡ Some image → M.FirstBad image part)
     → ((part : Part) → fault ≡ open_fault.BadVolume part → WritesNothing a b)
     → ((part : Part) → fault ≡ open_fault.BadVolume part → IsTrue a.honest → (image : List ℕ) → a.disk ≡ Some image → (b.disk ≡ Some image) × Only image b.images)
-    → ((image : List ℕ) (part : Part) → a.disk ≡ Some image → M.FirstBad image part → WritesNothing a b) → RunOn M a b (Some (unopened_as fault))
-run_unopened {S} {M} {a} {b} fault disk bad only kept left = record {
+    → ((image : List ℕ) (part : Part) → a.disk ≡ Some image → M.FirstBad image part → WritesNothing a b) → RunOn M C a b (Some (unopened_as fault))
+run_unopened {S} {H} {M} {C} {a} {b} fault disk bad only kept left = record {
   caused = opening_caused fault a b disk;
+  damaged = opening_undamaged C a b (unopened_as fault) (opening_stop fault);
   sound = λ table was on. opening_sound fault (λ part is. M.no_table on.image table part on.stands (bad part is on.image on.holds));
   bad = λ part is. bad part (bad_part fault part is);
   bad_only = λ part is. only part (bad_part fault part is);
@@ -175,10 +180,11 @@ run_unopened {S} {M} {a} {b} fault disk bad only kept left = record {
 }
 
 -- It was opened, and the lines went to their end or were stopped.
-pub run_opened : {S T : Type 0} {M : Meaning S} {a b : Outside} (r : Result T Stopped) → ((image : List ℕ) → a.disk ≡ Some image → (table : Table) × M.StandsFor image table)
-    → IfErr r IsLinesStop → IfErr r (λ why. CausedBy why a b) → ((table : Table) (was : List ℕ) → HoldsTable M a table was → IfErr r IsSoundStop) → RunOn M a b (result_err r)
-run_opened {S} {T} {M} {a} {b} r opened stops caused sound = record {
+pub run_opened : {S H T : Type 0} {M : Meaning S} {C : Conduct S H} {a b : Outside} (r : Result T Stopped) → ((image : List ℕ) → a.disk ≡ Some image → (table : Table) × M.StandsFor image table)
+    → IfErr r IsLinesStop → IfErr r (λ why. CausedBy why a b) → IfErr r (ByDamagedStep C a b) → ((table : Table) (was : List ℕ) → HoldsTable M a table was → IfErr r IsSoundStop) → RunOn M C a b (result_err r)
+run_opened {S} {H} {T} {M} {C} {a} {b} r opened stops caused damaged sound = record {
   caused = stop_is r (λ why. CausedBy why a b) caused;
+  damaged = stop_is r (ByDamagedStep C a b) damaged;
   sound = λ table was on. stop_is r IsSoundStop (sound table was on);
   bad = λ part is. absurd (lines_good r part stops is);
   bad_only = λ part is. absurd (lines_good r part stops is);

@@ -6,9 +6,11 @@ use Rattle.script_lang.specs.Reading.{Reading}
 use Rattle.session_views.specs.declared.Part.{Part}
 use Rattle.session_views.specs.View.{View, Meaning}
 use Rattle.session_views.specs.Opening.{IsStart}
+use Rattle.engines.specs.Keeping.{Conduct}
+use Rattle.talks.specs.Passage.{ByDamagedStep}
 use Rattle.talks.specs.Stops.{CausedBy, IsOpeningStop, IsSoundStop}
 use Rattle.talks.specs.Talking.{Talking, HasTalked}
-use Rattle.talks.specs.Transcript.{Row, ShowsAt, Trail, IsRunMoment, LastText, Ended, exchanges, output_of, request_in}
+use Rattle.talks.specs.Transcript.{Row, ShowsAt, Trail, IsRunMoment, LastKept, LastText, Ended, exchanges, last_time, output_of, request_in}
 use Rattle.talks.specs.declared.stopped.Stopped.{Stopped}
 use Rattle.talks.specs.declared.stopped.Stopped.TheVariants.{Output, BadVolume}
 
@@ -34,9 +36,9 @@ pub record OpenedAt {S : Type 0} (M : Meaning S) (Fresh : View S → Type 0) (ta
   pub shown : ShowsAt M now time was opening
 
 -- The volume was opened and lines were stepped, to the end of the talk (None) or to a stop, from the talk's first value to its last.
--- The first sentence, what was written: talked, sent, is_front, uncut. The second, the views between: opened, trail, ended. The third, what a stop
--- leaves: stops.
-pub record SteppedTalk {S T : Type 0} (M : Meaning S) (Fresh : View S → Type 0) (K : Talking T) (first talk : T) (table : Table) (was : List ℕ) (entry now : Outside) (ending : Option Stopped) : Type 0 where
+-- The first sentence, what was written: talked, sent, is_front, uncut. The second, the views between, and what each step kept: opened, trail, kept, ended.
+-- The third, what a stop leaves: stops.
+pub record SteppedTalk {S H T : Type 0} (M : Meaning S) (C : Conduct S H) (Fresh : View S → Type 0) (K : Talking T) (first talk : T) (table : Table) (was : List ℕ) (entry now : Outside) (ending : Option Stopped) : Type 0 where
   pub opening : View S
   pub time : ℕ
   pub opened : OpenedAt M Fresh table was entry now time opening
@@ -51,8 +53,9 @@ pub record SteppedTalk {S T : Type 0} (M : Meaning S) (Fresh : View S → Type 0
   pub sent : now.sent ≡ Some (was ++ output_of rows ++ front)
   pub is_front : LastText M (K.text at) after last front
   pub uncut : (ending ≡ Some Output → ⊥) → front ≡ []
-  pub trail : Trail M now was time [] opening rows after
-  pub ended : ending ≡ None → Ended M after now
+  pub trail : Trail M C now was time [] opening rows after
+  pub kept : IfSome ending (LastKept M C (last_time time rows) now after (request_in last))
+  pub ended : ending ≡ None → Ended M C (last_time time rows) after now
   pub stops : Along entry now (IsRunMoment M K.acking opening.machine rows after.machine (request_in last) was)
 
 -- The volume wasn't opened: nothing was sent and no byte of the source taken, and each image stands for the table.
@@ -65,13 +68,15 @@ pub record Unopened {S : Type 0} (M : Meaning S) (table : Table) (was : List ℕ
   pub stops : Along entry now (λ s d. (s ≡ was) × M.StandsFor d table)
 
 -- what a run promises, given how it ends
-abbrev pub TalkHeadline : {S T : Type 0} → Meaning S → (View S → Type 0) → Talking T → T → T → Table → List ℕ → Outside → Outside → Option Stopped → Type 0
-TalkHeadline M Fresh K first talk table was entry now ending = SteppedTalk M Fresh K first talk table was entry now ending ⊎ Unopened M table was entry now ending
+abbrev pub TalkHeadline : {S H T : Type 0} → Meaning S → Conduct S H → (View S → Type 0) → Talking T → T → T → Table → List ℕ → Outside → Outside → Option Stopped → Type 0
+TalkHeadline M C Fresh K first talk table was entry now ending = SteppedTalk M C Fresh K first talk table was entry now ending ⊎ Unopened M table was entry now ending
 
 -- What a run promises of its disk and of why it was stopped, whatever hands it its lines, given how it ends.
-pub record RunOn {S : Type 0} (M : Meaning S) (before after : Outside) (ending : Option Stopped) : Type 0 where
+pub record RunOn {S H : Type 0} (M : Meaning S) (C : Conduct S H) (before after : Outside) (ending : Option Stopped) : Type 0 where
   -- A fault of the outside is answered only where the count of such faults rose, and damage only of two things that differ.
   pub caused : IfSome ending (λ why. CausedBy why before after)
+  -- A damaged page is told as the step that found it has it.
+  pub damaged : IfSome ending (ByDamagedStep C before after)
   -- On a volume nothing but a fault of the outside, want of memory or too long a script stops it.
   pub sound : (table : Table) (was : List ℕ) → HoldsTable M before table was → IfSome ending IsSoundStop
   -- The disk holds no volume exactly where a part of it fails. Then nothing is sent, no line is taken, and nothing is written, whatever is answered.

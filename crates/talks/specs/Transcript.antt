@@ -1,5 +1,5 @@
 -- A run of lines: what it replies, from view to view, and what a stop in it may leave.
-use Rattle.std.specs.Prelude.{◌≡◌, ◌⊎◌, ◌≤◌, ◌<◌, ℕ, ◌+◌, Option, Some, None, List, [], ◌∷◌, ◌++◌, length, take, flat_map, map}
+use Rattle.std.specs.Prelude.{◌≡◌, ◌⊎◌, ◌≤◌, ◌<◌, ℕ, ◌+◌, Option, Some, None, List, [], ◌∷◌, ◌++◌, length, take, flat_map, map, Result, Ok, Err, IfOk}
 use Rattle.disk_model.specs.Outside.{Outside, Along}
 use Rattle.table_model.specs.declared.table.Table.{Table}
 use Rattle.table_model.specs.declared.machine.Machine.{Machine}
@@ -9,8 +9,11 @@ use Rattle.table_model.specs.declared.reply.Reply.TheVariants as reply
 use Rattle.table_model.specs.Requests.{Request, Abort}
 use Rattle.table_model.specs.Steps.{Step, table_committed}
 use Rattle.script_lang.specs.Reading.{Reading, Silent, Asks, Fails}
-use Rattle.session_views.specs.View.{View, Meaning, ShowsNow, IsOpenCommit}
+use Rattle.session_views.specs.declared.Stop.{Stop}
+use Rattle.session_views.specs.View.{View, Meaning, ShowsNow, Stepped, IsOpenCommit}
+use Rattle.engines.specs.Keeping.{Conduct, StepKept}
 use Rattle.talks.specs.Acking.{Acking}
+use Rattle.talks.specs.Stops.{stop_as, IsSendingStop, IsTakingStop}
 use Rattle.talks.specs.Talking.{Exchange}
 use Rattle.talks.specs.declared.stopped.Stopped.{Stopped}
 use Rattle.talks.specs.declared.stopped.Stopped.TheVariants.{Output}
@@ -42,17 +45,31 @@ pub record ShowsAt {S : Type 0} (M : Meaning S) (now : Outside) (time : ℕ) (se
   pub stood : now.stood time sent v.disk v.disk
   pub shows : M.Shows (now.stood time sent v.disk) v
 
--- A row follows on a view: by a step, to a view that shows at a time, not before that of the row before, when its text had been sent whole.
-pub record Follows {S : Type 0} (M : Meaning S) (now : Outside) (was : List ℕ) (since : ℕ) (sent : List ℕ) (before : View S) (row : Row S) : Type 0 where
+-- Between these times the session stepped on what the line asks for, to this reply, and kept what its steps keep; the view after it shows the host that the
+-- step left.
+abbrev pub LineKept : {S H : Type 0} → Meaning S → Conduct S H → ℕ → ℕ → Outside → View S → Reading → Reply → View S → Type 0
+LineKept M C since time now before Silent told after = Unit {0}
+LineKept M C since time now before (Asks r) told after = (kept : StepKept M C since time now before r (Ok told) after.session) × ShowsNow M (C.outside kept.to) after
+LineKept M C since time now before (Fails why) told after = Unit {0}
+
+-- A row follows on a view: by a step that kept what steps keep, to a view that shows at a time, not before that of the row before, when its text had been
+-- sent whole.
+pub record Follows {S H : Type 0} (M : Meaning S) (C : Conduct S H) (now : Outside) (was : List ℕ) (since : ℕ) (sent : List ℕ) (before : View S) (row : Row S) : Type 0 where
   pub steps : StepsTo M before row.had.reading row.pick row.had.told row.view
+  pub kept : LineKept M C since row.time now before row.had.reading row.had.told row.view
   pub later : since ≤ row.time
   pub shown : ShowsAt M now row.time (was ++ (sent ++ row.had.text)) row.view
 
 -- The rows follow one on the other, from that time on, where this was sent before them.
-abbrev pub Trail : {S : Type 0} → Meaning S → Outside → List ℕ → ℕ → List ℕ → View S → List (Row S) → View S → Type 0
-Trail M now was since sent before [] after = after ≡ before
-Trail M now was since sent before (row ∷ rows) after =
-    Follows M now was since sent before row × Trail M now was row.time (sent ++ row.had.text) row.view rows after
+abbrev pub Trail : {S H : Type 0} → Meaning S → Conduct S H → Outside → List ℕ → ℕ → List ℕ → View S → List (Row S) → View S → Type 0
+Trail M C now was since sent before [] after = after ≡ before
+Trail M C now was since sent before (row ∷ rows) after =
+    Follows M C now was since sent before row × Trail M C now was row.time (sent ++ row.had.text) row.view rows after
+
+-- the time of the last row, or else that one
+abbrev pub last_time : {S : Type 0} → ℕ → List (Row S) → ℕ
+last_time since [] = since
+last_time since (row ∷ rows) = last_time row.time rows
 
 -- ---- what a stop leaves
 
@@ -84,12 +101,12 @@ pub record Opens {S : Type 0} (M : Meaning S) (entry : Outside) (opening : View 
   pub sent : entry.sent ≡ Some was
 
 -- These exchanges were had: the first two sentences of a run so far, and the third.
-pub record Reached {S : Type 0} (M : Meaning S) (A : Acking) (opening : View S) (was : List ℕ) (entry now : Outside) (session : S) (had : List Exchange) : Type 0 where
+pub record Reached {S H : Type 0} (M : Meaning S) (C : Conduct S H) (A : Acking) (opening : View S) (was : List ℕ) (entry now : Outside) (session : S) (had : List Exchange) : Type 0 where
   pub rows : List (Row S)
   pub view : View S
   pub heard : exchanges rows ≡ had
   pub sent : now.sent ≡ Some (was ++ output_of rows)
-  pub trail : Trail M now was entry.clock [] opening rows view
+  pub trail : Trail M C now was entry.clock [] opening rows view
   pub is : view.session ≡ session
   pub shows : ShowsNow M now view
   pub even : A.Even opening.machine.committed.last (output_of rows) view.machine.committed.last
@@ -117,8 +134,36 @@ abbrev pub LastText : {S : Type 0} → Meaning S → (Reply → List ℕ) → Vi
 LastText M text before None front = front ≡ []
 LastText M text before (Some reading) front = (front ≡ []) ⊎ FrontOfText M text before reading front
 
+-- ---- what the step that was made last kept
+
+-- A step that gave this ended the run so: it stopped, or the telling of its reply did.
+abbrev pub EndsBy : Result Reply Stop → Stopped → Type 0
+EndsBy (Ok told) why = IsSendingStop why
+EndsBy (Err stop) why = Some why ≡ stop_as stop
+
+-- the step on the last line, which has no whole reply
+pub record LastStep {S H : Type 0} (M : Meaning S) (C : Conduct S H) (since : ℕ) (now : Outside) (before : View S) (r : Request) (why : Stopped) : Type 0 where
+  pub result : Result Reply Stop
+  pub session : S
+  pub ends : EndsBy result why
+  pub kept : StepKept M C since now.clock now before r result session
+  -- where it replied, it led to a view that shows the host that it left
+  pub stepped : IfOk result (λ told. Stepped M before r told session (C.outside kept.to))
+
+-- the abort at the end of the lines, where it stopped
+pub record StoppedAbort {S H : Type 0} (M : Meaning S) (C : Conduct S H) (since : ℕ) (now : Outside) (before : View S) (why : Stopped) : Type 0 where
+  pub stop : Stop
+  pub session : S
+  pub is : Some why ≡ stop_as stop
+  pub kept : StepKept M C since now.clock now before Abort (Err stop) session
+
+-- What stopped the run kept what steps keep: the step on the last line, or the abort at the end. Where a line was taken or refused, no step was made.
+abbrev pub LastKept : {S H : Type 0} → Meaning S → Conduct S H → ℕ → Outside → View S → Option Request → Stopped → Type 0
+LastKept M C since now before None why = (IsTakingStop why ⊎ IsSendingStop why) ⊎ StoppedAbort M C since now before why
+LastKept M C since now before (Some r) why = LastStep M C since now before r why
+
 -- The run ended early: all texts but the last line's were sent whole, and of that one's a front, where the sink failed.
-pub record CutShort {S : Type 0} (M : Meaning S) (A : Acking) (text : Reply → List ℕ) (opening : View S) (was : List ℕ) (entry now : Outside) (had : List Exchange) (last : Option Reading) (why : Stopped) : Type 0 where
+pub record CutShort {S H : Type 0} (M : Meaning S) (C : Conduct S H) (A : Acking) (text : Reply → List ℕ) (opening : View S) (was : List ℕ) (entry now : Outside) (had : List Exchange) (last : Option Reading) (why : Stopped) : Type 0 where
   pub rows : List (Row S)
   pub view : View S
   pub heard : exchanges rows ≡ had
@@ -126,12 +171,15 @@ pub record CutShort {S : Type 0} (M : Meaning S) (A : Acking) (text : Reply → 
   pub sent : now.sent ≡ Some (was ++ output_of rows ++ front)
   pub is_front : LastText M text view last front
   pub uncut : (why ≡ Output → ⊥) → front ≡ []
-  pub trail : Trail M now was entry.clock [] opening rows view
+  pub trail : Trail M C now was entry.clock [] opening rows view
+  pub kept : LastKept M C (last_time entry.clock rows) now view (request_in last) why
   pub stops : Along entry now (IsRunMoment M A opening.machine rows view.machine (request_in last) was)
 
--- At the end of the lines a transaction that is open is aborted. The view after that shows what stands outside.
-pub record Ended {S : Type 0} (M : Meaning S) (before : View S) (now : Outside) : Type 0 where
+-- At the end of the lines a transaction that is open is aborted, by a step that kept what steps keep. The view after that shows what stands outside.
+pub record Ended {S H : Type 0} (M : Meaning S) (C : Conduct S H) (since : ℕ) (before : View S) (now : Outside) : Type 0 where
   pub after : View S
   pub told : Reply
   pub step : Step before.machine Abort (M.pick before Abort after) told after.machine
+  pub kept : StepKept M C since now.clock now before Abort (Ok told) after.session
+  pub left : ShowsNow M (C.outside kept.to) after
   pub shows : ShowsNow M now after

@@ -2,12 +2,14 @@
 ghost use Rattle.std.specs.Prelude.{◌≡◌, OnOk, IfErr};
 ghost use Rattle.disk_model.specs.Outside.{DiskOnly, Leaves};
 ghost use Rattle.session_views.specs.View.{View, ShowsNow};
+ghost use Rattle.engines.specs.Keeping.{conduct};
+ghost use Rattle.talks.specs.Passage.{ByDamagedStep};
 ghost use Rattle.talks.specs.Stops.{CausedBy, IsSessionStop, IsSoundStop};
-ghost use Rattle.talks.specs.Transcript.{Ended};
+ghost use Rattle.talks.specs.Transcript.{Ended, StoppedAbort};
 
 use crate::stopped::{Stopped, stopped_by};
 use disk_model::Host;
-use session_views::Engine;
+use engines::Engine;
 use std::alloc::Global;
 use table_model::Command;
 
@@ -21,10 +23,17 @@ pub(crate) fn abort_open<E: Engine, H: Host>(
     requires room { E.fits session.old (H.outside host.old).size }
     ensures only { DiskOnly (H.outside host.old) (H.outside host.new) }
     ensures caused { IfErr result (λ why. CausedBy why (H.outside host.old) (H.outside host.new)) }
+    ensures damaged { IfErr result (ByDamagedStep (conduct H.outside E.keeps)
+        (H.outside host.old) (H.outside host.new)) }
     ensures stops { IfErr result IsSessionStop }
     ensures aborted { (before : View E) → before.session ≡ session.old
         → ShowsNow E.meaning (H.outside host.old) before
-        → OnOk result (Ended E.meaning before (H.outside host.new)) }
+        → OnOk result (Ended E.meaning (conduct H.outside E.keeps) (H.outside host.old).clock
+        before (H.outside host.new)) }
+    ensures stopped { (before : View E) → before.session ≡ session.old
+        → ShowsNow E.meaning (H.outside host.old) before
+        → IfErr result (StoppedAbort E.meaning (conduct H.outside E.keeps)
+        (H.outside host.old).clock (H.outside host.new) before) }
     ensures sound { (before : View E) → before.session ≡ session.old
         → ShowsNow E.meaning (H.outside host.old) before → IfErr result IsSoundStop }
     ensures any_moment { (before : View E) → before.session ≡ session.old

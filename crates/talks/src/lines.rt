@@ -2,14 +2,15 @@
 ghost use Rattle.std.specs.Prelude.{◌≡◌, ◌⊎◌, List, ℕ, OnOk, IfErr};
 ghost use Rattle.disk_model.specs.Outside.{Goes};
 ghost use Rattle.session_views.specs.View.{View};
-ghost use Rattle.talks.specs.Passage.{Ran, WasCut};
+ghost use Rattle.engines.specs.Keeping.{conduct};
+ghost use Rattle.talks.specs.Passage.{ByDamagedStep, Ran, WasCut};
 ghost use Rattle.talks.specs.Stops.{CausedBy, IsLinesStop, IsSessionStop, IsSoundStop};
 ghost use Rattle.talks.specs.Transcript.{Opens};
 
 use crate::stopped::{Stopped, stopped_by};
 use crate::talk::{Asked, Talk};
 use disk_model::Host;
-use session_views::Engine;
+use engines::Engine;
 use std::alloc::Global;
 use table_model::Reply;
 
@@ -25,11 +26,13 @@ pub(crate) fn step_lines<E: Engine, T: Talk, H: Host>(
     ensures goes { Goes (H.outside host.old) (H.outside host.new) }
     ensures up { OnOk result (E.up session.new) }
     ensures room { OnOk result (E.fits session.new (H.outside host.new).size) }
-    ensures whole { OnOk result (Ran E.meaning T.talking (H.outside host.old)
-        (H.outside host.new) session.old session.new talk.old talk.new) }
-    ensures cut { IfErr result (λ why. WasCut E.meaning T.talking (H.outside host.old)
-        (H.outside host.new) session.old talk.old why) }
+    ensures whole { OnOk result (Ran E.meaning (conduct H.outside E.keeps) T.talking
+        (H.outside host.old) (H.outside host.new) session.old session.new talk.old talk.new) }
+    ensures cut { IfErr result (λ why. WasCut E.meaning (conduct H.outside E.keeps) T.talking
+        (H.outside host.old) (H.outside host.new) session.old talk.old why) }
     ensures caused { IfErr result (λ why. CausedBy why (H.outside host.old) (H.outside host.new)) }
+    ensures damaged { IfErr result (ByDamagedStep (conduct H.outside E.keeps)
+        (H.outside host.old) (H.outside host.new)) }
     ensures stops { IfErr result IsLinesStop }
     ensures whence { IfErr result (λ why. IsSessionStop why ⊎ T.fails why) }
     ensures sound { (opening : View E) (was : List ℕ) → opening.session ≡ session.old

@@ -8,7 +8,8 @@ ghost use Rattle.session_views.specs.View.{View};
 ghost use Rattle.talks.specs.Opening.{Opened};
 
 use disk_model::Host;
-use session_views::{Engine, OpenFault};
+use engines::Engine;
+use session_views::OpenFault;
 use std::alloc::Global;
 
 /// A session that is opened on a volume.

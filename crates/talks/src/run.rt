@@ -3,6 +3,7 @@ ghost use Rattle.std.specs.Prelude.{◌⊎◌, ℕ, List, OnOk, IfErr};
 ghost use Rattle.std.specs.Result.{result_err};
 ghost use Rattle.disk_model.specs.Outside.{DiskOnly, Goes};
 ghost use Rattle.table_model.specs.declared.table.Table.{Table};
+ghost use Rattle.engines.specs.Keeping.{conduct};
 ghost use Rattle.talks.specs.Headline.{RunOn, RunStarts, TalkHeadline};
 ghost use Rattle.talks.specs.Passage.{IsBroken, IsOver};
 ghost use Rattle.talks.specs.Stops.{IsOpeningStop, IsSessionStop};
@@ -24,14 +25,15 @@ pub fn run_talk<E: Opener + Drop, T: Talk, H: Host>(
 ) -> Result<(), Stopped>
     ensures goes { Goes (H.outside host.old) (H.outside host.new) }
 
-    // What was replied, from view to view, and what a stop at any moment leaves.
+    // What was replied, from view to view, what each step kept, and what a stop at any moment leaves.
     ensures headline { (table : Table) (was : List ℕ)
         → RunStarts E.meaning (H.outside host.old) table was
-        → TalkHeadline E.meaning E.fresh T.talking talk.old talk.new table was (H.outside host.old)
-        (H.outside host.new) (result_err result) }
+        → TalkHeadline E.meaning (conduct H.outside E.keeps) E.fresh T.talking talk.old talk.new
+        table was (H.outside host.old) (H.outside host.new) (result_err result) }
 
     // What becomes of the disk, and why it was stopped.
-    ensures on { RunOn E.meaning (H.outside host.old) (H.outside host.new) (result_err result) }
+    ensures on { RunOn E.meaning (conduct H.outside E.keeps) (H.outside host.old)
+        (H.outside host.new) (result_err result) }
 
     // The talk went to its end, or it was broken, or it wasn't begun.
     ensures over { OnOk result (IsOver T.talking talk.old (H.outside host.old).left

@@ -29,7 +29,7 @@ use Rattle.table_model.specs.Requests as request
 use Rattle.table_model.specs.Steps.{Asks, machine_after, note, notes_of, reply_to, table_after}
 use Rattle.table_model.specs.Tables.{with_bytes}
 use Rattle.table_model.proofs.Stepping.{passes, unmet}
-use Rattle.session_views.specs.declared.engine.Stop.{Stop}
+use Rattle.session_views.specs.declared.stop.Stop.{Stop}
 use Rattle.session_views.specs.View.{View, ShowsNow, Stepped}
 use Rattle.versions.specs.declared.editing.Edit.{Edit}
 use Rattle.versions.specs.declared.finding.Found.{Found}

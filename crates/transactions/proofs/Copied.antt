@@ -23,7 +23,7 @@ use Rattle.table_model.specs.Tables.{IsTable, numbered, with_derived, with_froze
 use Rattle.table_model.proofs.Keeping.{shown_is}
 use Rattle.table_model.proofs.Stepping.{passes, unmet}
 use Rattle.version_lists.specs.declared.version.Version.{Version}
-use Rattle.session_views.specs.declared.engine.Stop.{Stop}
+use Rattle.session_views.specs.declared.stop.Stop.{Stop}
 use Rattle.session_views.specs.View.{View, ShowsNow}
 use Rattle.volume_model.specs.Volume.{is_frozen}
 use Rattle.session_core.specs.declared.session.objects.Named.{Named}

@@ -24,7 +24,7 @@ use Rattle.table_model.specs.Requests.{Request, is_kept_name_if}
 use Rattle.table_model.specs.Requests as request
 use Rattle.table_model.specs.Tables.{file_at}
 use Rattle.session_views.specs.View.{View, ShowsNow}
-use Rattle.session_views.specs.declared.engine.Stop.{Stop}
+use Rattle.session_views.specs.declared.stop.Stop.{Stop}
 use Rattle.volume_edits.proofs.Finding.{find_in}
 use Rattle.transactions.specs.declared.creation.NewObject.{NewObject}
 use Rattle.transactions.specs.Editing.{new_object_in, numbered_at, place_if, room_refusal}

@@ -9,8 +9,8 @@ use Rattle.disk_model.specs.Outside.{Outside}
 use Rattle.table_model.specs.declared.reply.Refusal.{Refusal}
 use Rattle.table_model.specs.declared.reply.Reply.{Reply}
 use Rattle.table_model.specs.Requests.{Reference, Request}
-use Rattle.session_views.specs.declared.engine.Stop.{Stop}
-use Rattle.session_views.specs.declared.engine.Stop.TheVariants as stop
+use Rattle.session_views.specs.declared.stop.Stop.{Stop}
+use Rattle.session_views.specs.declared.stop.Stop.TheVariants as stop
 use Rattle.tree_store.specs.Stored.{Tells}
 use Rattle.versions.specs.Damage.{IsRootAt}
 use Rattle.session_core.specs.declared.session.objects.Named.{Named}

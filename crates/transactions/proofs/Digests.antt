@@ -2,7 +2,7 @@
 use Rattle.std.proofs.Common.{◌≡◌, ◌∙◌, ◌≤◌, ℕ, List, [], length, Option, Ok, Err, refl, sym, ap, arith}
 use Rattle.sha2.specs.Sha256.{sha256}
 use Rattle.disk_model.specs.Outside.{Outside}
-use Rattle.session_views.specs.declared.engine.Stop.{Stop}
+use Rattle.session_views.specs.declared.stop.Stop.{Stop}
 use Rattle.table_model.specs.declared.reply.Refusal.{Refusal}
 use Rattle.table_model.specs.declared.reply.Reply.TheVariants as reply
 use Rattle.version_lists.specs.declared.version.Version.{Version}

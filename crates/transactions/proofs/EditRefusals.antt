@@ -31,7 +31,7 @@ use Rattle.session_core.specs.Meant.{held_view, meant, pick_of, oid_asked, size_
 use Rattle.session_core.specs.Counts.{free_in}
 use Rattle.session_core.specs.Finding.{IfLive, IfShown, IsOutside, NamesVersion, IsMissing}
 use Rattle.session_core.specs.Steps.{OnlyFrames}
-use Rattle.session_views.specs.declared.engine.Stop.{Stop}
+use Rattle.session_views.specs.declared.stop.Stop.{Stop}
 use Rattle.session_core.proofs.Quiet.{same_view, with_groups}
 use Rattle.transactions.specs.Editing.{AsksFor, IsAdmitted, IsAnswered, is_outside, bytes_refusal, room_refusal, edit_need, edit_refusal}
 use Rattle.session_core.specs.Needs.{fits_beside, size_after, root_height}

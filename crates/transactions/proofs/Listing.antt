@@ -14,7 +14,7 @@ use Rattle.table_model.specs.Machines.{shown}
 use Rattle.table_model.specs.Refusals.{first, when}
 use Rattle.table_model.specs.Requests as request
 use Rattle.table_model.specs.Tables.{file_at}
-use Rattle.session_views.specs.declared.engine.Stop.{Stop}
+use Rattle.session_views.specs.declared.stop.Stop.{Stop}
 use Rattle.session_views.specs.View.{View}
 use Rattle.volume_edits.proofs.Finding.{find_in}
 use Rattle.session_core.specs.Finding.{IfFile, IfShown, IsOutside, LineStops, oids_listed}

@@ -21,7 +21,7 @@ use Rattle.table_model.specs.Requests as request
 use Rattle.table_model.specs.Steps.{IsAllowed, IfAccepted, reply_to, machine_after}
 use Rattle.table_model.specs.Tables.{version_at}
 use Rattle.table_model.proofs.Stepping.{accepted, refused}
-use Rattle.session_views.specs.declared.engine.Stop.{Stop}
+use Rattle.session_views.specs.declared.stop.Stop.{Stop}
 use Rattle.session_views.specs.View.{View, ShowsNow, Stepped}
 use Rattle.versions.specs.Found.{root_of}
 use Rattle.session_core.specs.declared.session.objects.Named.{Named}

@@ -12,7 +12,7 @@ use Rattle.disk_model.specs.Runs.{reads_trans}
 use Rattle.ex_base.specs.declared.names.Oid.{Oid}
 use Rattle.open_scans.specs.GroupRows.{group_index, is_row_named}
 use Rattle.open_scans.specs.OpenScans.{scan_of}
-use Rattle.session_views.specs.declared.engine.Stop.{Stop}
+use Rattle.session_views.specs.declared.stop.Stop.{Stop}
 use Rattle.session_views.specs.View.{View, ShowsNow}
 use Rattle.table_model.specs.declared.machine.GroupRow.{GroupRow}
 use Rattle.table_model.specs.declared.machine.Machine.{Machine}

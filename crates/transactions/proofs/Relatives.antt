@@ -10,7 +10,7 @@ use Rattle.table_model.specs.Requests as request
 use Rattle.table_model.specs.Steps.{oids, versions_if}
 use Rattle.table_model.specs.Tables.{object_at}
 use Rattle.version_lists.specs.Versions.{listed}
-use Rattle.session_views.specs.declared.engine.Stop.{Stop}
+use Rattle.session_views.specs.declared.stop.Stop.{Stop}
 use Rattle.session_core.specs.declared.session.objects.Named.{Named}
 use Rattle.session_core.specs.declared.session.relatives.Relation.TheVariants as relation
 use Rattle.session_core.specs.Finding.{AreRelatives, IfShown, IfVersion, IsMissing, IsOutside, LineStops, NamesVersion}

@@ -31,7 +31,7 @@ use Rattle.version_lists.specs.declared.version.Version.{Version}
 use Rattle.version_lists.specs.Versions.{derived_from, has_oid, unique_of}
 use Rattle.version_lists.proofs.Links.{has_derived, one_derived}
 use Rattle.version_lists.proofs.Lists.{Has, find_has, has_length}
-use Rattle.session_views.specs.declared.engine.Stop.{Stop}
+use Rattle.session_views.specs.declared.stop.Stop.{Stop}
 use Rattle.session_views.specs.View.{View, ShowsNow, Stepped}
 use Rattle.volume_model.specs.Volume.{is_frozen}
 use Rattle.session_core.specs.declared.session.objects.Named.{Named}

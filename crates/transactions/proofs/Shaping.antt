@@ -15,7 +15,7 @@ use Rattle.table_model.specs.Requests.{Reference}
 use Rattle.table_model.specs.Requests as request
 use Rattle.table_model.specs.Steps.{reply_to, stat_reply}
 use Rattle.session_views.specs.View.{View, ShowsNow, Stepped}
-use Rattle.session_views.specs.declared.engine.Stop.{Stop}
+use Rattle.session_views.specs.declared.stop.Stop.{Stop}
 use Rattle.versions.specs.Found as found_words
 use Rattle.versions.specs.Found.{root_of}
 use Rattle.versions.specs.Versions.{record_len}

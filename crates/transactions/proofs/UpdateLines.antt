@@ -12,7 +12,7 @@ use Rattle.table_model.specs.Refusals.{refusal_of}
 use Rattle.table_model.specs.Requests.{Request}
 use Rattle.table_model.specs.Steps.{IsAllowed, IfAccepted}
 use Rattle.table_model.proofs.Stepping.{refused}
-use Rattle.session_views.specs.declared.engine.Stop.{Stop}
+use Rattle.session_views.specs.declared.stop.Stop.{Stop}
 use Rattle.session_views.specs.View.{View, ShowsNow, StandsDuring, Stepped}
 use Rattle.std.specs.Prelude.{is_some, true, false, IfErr, IfOk, Result}
 use Rattle.volume_model.specs.Shown.{Held}

@@ -4,7 +4,7 @@ use Rattle.disk_model.specs.Outside.{Outside, DiskOnly, Leaves, ReadsOnly}
 use Rattle.table_model.specs.declared.reply.Reply.{Reply}
 use Rattle.table_model.specs.Requests.{Request}
 use Rattle.table_model.specs.Requests as request
-use Rattle.session_views.specs.declared.engine.Stop.{Stop}
+use Rattle.session_views.specs.declared.stop.Stop.{Stop}
 use Rattle.session_views.specs.View.{View, ShowsNow, Stepped, StandsDuring}
 use Rattle.session_core.specs.Finding.{IfShown, IsOutside, LineStops}
 use Rattle.session_core.specs.Meant.{meant}

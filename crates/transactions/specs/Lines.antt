@@ -7,7 +7,7 @@ use Rattle.table_model.specs.declared.reply.Refusal.{Refusal}
 use Rattle.table_model.specs.declared.reply.Reply.{Reply}
 use Rattle.table_model.specs.Refusals.{refusal_of}
 use Rattle.table_model.specs.Requests.{Request, Reference}
-use Rattle.session_views.specs.declared.engine.Stop.{Stop}
+use Rattle.session_views.specs.declared.stop.Stop.{Stop}
 use Rattle.session_views.specs.View.{View, ShowsNow, StandsDuring, Stepped}
 use Rattle.session_core.specs.Meant.{meant}
 use Rattle.session_core.specs.Sessions.{SessionState}

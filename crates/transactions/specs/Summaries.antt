@@ -7,7 +7,7 @@ use Rattle.object_files.specs.Reads.{catalog_on}
 use Rattle.table_model.specs.declared.machine.Machine.{Machine}
 use Rattle.table_model.specs.Machines.{shown}
 use Rattle.table_model.specs.Tables.{objects_of, versions_of}
-use Rattle.session_views.specs.declared.engine.Stop.{Stop}
+use Rattle.session_views.specs.declared.stop.Stop.{Stop}
 use Rattle.session_views.specs.View.{View, ShowsNow}
 use Rattle.transactions.specs.declared.summary.Summary.{Summary}
 use Rattle.transactions.specs.declared.summary.Totals.{Totals}

@@ -12,7 +12,7 @@ ghost use Rattle.tree_store.specs.Stored.{Tells};
 ghost use Rattle.volume_model.specs.Durable.{IsDurable};
 ghost use Rattle.table_model.specs.Requests.{request_of, is_request};
 ghost use Rattle.table_model.specs.Requests as request;
-ghost use Rattle.session_views.specs.declared.engine.Stop.{Stop};
+ghost use Rattle.session_views.specs.declared.stop.Stop.{Stop};
 ghost use Rattle.session_views.specs.View.{View, ShowsNow, Stepped, StandsDuring};
 ghost use Rattle.session_core.specs.Sessions.{FreesGivenBack, FreesTaken, IsSession, SessionState, TakesLogged};
 ghost use Rattle.session_core.specs.Catalogs.{IsDamaged, catalog_bytes};

@@ -1,7 +1,7 @@
 //! A group of frames is made.
 ghost use Rattle.std.specs.Prelude.{◌≡◌, IsTrue, IfErr};
 ghost use Rattle.session_core.specs.Sessions.{IsSession};
-ghost use Rattle.session_views.specs.declared.engine.Stop.{Stop};
+ghost use Rattle.session_views.specs.declared.stop.Stop.{Stop};
 ghost use Rattle.table_model.specs.Requests.{is_request};
 ghost use Rattle.table_model.specs.Requests as request;
 ghost use Rattle.transactions.specs.Lines.{ScansLine};

@@ -3,7 +3,7 @@ ghost use Rattle.std.specs.Prelude.{◌≡◌, ◌≢◌, ◌⊎◌, ◌≤◌, 
 ghost use Rattle.ex_base.specs.declared.faults.Seen.{Seen};
 ghost use Rattle.ex_base.specs.declared.names.PageNo.{PageNo};
 ghost use Rattle.disk_model.specs.Outside.{ReadsOnly, Rose};
-ghost use Rattle.session_views.specs.declared.engine.Stop.{Stop};
+ghost use Rattle.session_views.specs.declared.stop.Stop.{Stop};
 ghost use Rattle.session_views.specs.View.{View, ShowsNow};
 ghost use Rattle.tree_store.specs.Stored.{Tells};
 ghost use Rattle.session_core.specs.Sessions.{SessionState};

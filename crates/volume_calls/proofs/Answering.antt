@@ -7,7 +7,7 @@ use Rattle.table_model.specs.declared.reply.Refusal.{Refusal}
 use Rattle.table_model.specs.Requests.{Request}
 use Rattle.script_lang.specs.Reading.{Reading, Asks, Fails}
 use Rattle.script_replies.specs.ReplyText.{text_of}
-use Rattle.session_views.specs.declared.engine.Stop.{Stop}
+use Rattle.session_views.specs.declared.stop.Stop.{Stop}
 use Rattle.session_views.specs.View.{Meaning, View, ShowsNow, Stepped}
 use Rattle.volume_calls.specs.Lines.{Answered, refusal_in}
 

@@ -7,13 +7,14 @@ ghost use Rattle.table_model.specs.Requests.{request_of};
 ghost use Rattle.table_model.specs.Requests as request;
 ghost use Rattle.table_model.specs.declared.reply.Refusal.TheVariants.{Syntax};
 ghost use Rattle.table_model.specs.declared.reply.Reply.TheVariants.{No};
-ghost use Rattle.session_views.specs.declared.engine.Stop.{Stop};
+ghost use Rattle.session_views.specs.declared.stop.Stop.{Stop};
 ghost use Rattle.session_views.specs.View.{View, ShowsNow, Stepped, StandsDuring};
 ghost use Rattle.volume_calls.specs.Forms.{is_formed};
 
 use crate::forms::is_formed;
 use disk_model::Host;
-use session_views::{Engine, Stop};
+use engines::Engine;
+use session_views::Stop;
 use std::alloc::Global;
 use table_model::{Command, Refusal, Reply};
 
@@ -50,6 +51,10 @@ pub fn call<E: Engine, H: Host>(
         → before.session ≡ session.old → ShowsNow E.meaning (H.outside host.old) before
         → Leaves (H.outside host.old) (H.outside host.new) (StandsDuring E.meaning before.machine
         (request_of command.now)) }
+
+    // What a line could ask for keeps what the session's steps keep.
+    ensures kept { IsTrue (is_formed (request_of command.now)) → E.keeps session.old session.new
+        (H.outside host.old) (H.outside host.new) (request_of command.now) result }
 
     // What no line could ask for is refused, and nothing was done.
     ensures unformed { is_formed (request_of command.now) ≡ false → (result ≡ Ok (No Syntax))

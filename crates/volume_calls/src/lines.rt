@@ -7,15 +7,16 @@ ghost use Rattle.script_lang.specs.Parsed.{reading_of};
 ghost use Rattle.script_lang.specs.Reading.{Reading, Reads};
 ghost use Rattle.script_replies.specs.ReplyText.{text_of};
 ghost use Rattle.session_views.specs.View.{View, ShowsNow};
-ghost use Rattle.session_views.specs.declared.engine.Stop.{Stop};
+ghost use Rattle.session_views.specs.declared.stop.Stop.{Stop};
 ghost use Rattle.table_model.specs.Requests.{is_request, request_of};
 ghost use Rattle.volume_calls.specs.Lines.{Answered, MayLeave, line_of, refusal_in};
 
 use disk_model::Host;
+use engines::Engine;
 use script_lang::parse;
 use script_lines::LINE_MOST;
 use script_replies::push_reply;
-use session_views::{Engine, Stop};
+use session_views::Stop;
 use std::alloc::Global;
 use table_model::{Command, Refusal, Reply};
 

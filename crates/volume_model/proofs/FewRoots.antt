@@ -1,4 +1,4 @@
--- How many roots a volume has at most: a page of a file has room for 204 records.
+-- How many records and roots a volume has at most: a page of a file has room for 204 records.
 use Rattle.std.proofs.Common.{ℕ, suc, ◌+◌, ◌*◌, ◌<◌, ◌≤◌, List, [], ◌∷◌, ◌++◌, length, Option, Some, None, arith}
 use Rattle.std.specs.List.{flat_map, AllByRecursion, AllZip, zip}
 use Rattle.std.proofs.lemmas.List.{length-append}
@@ -102,13 +102,20 @@ pub fewer_pages : (roots : List Root) → length (root_pages roots) ≤ length r
 fewer_pages [] = omega arith
 fewer_pages (root ∷ roots) = omega (arith, one_page root.page, fewer_pages roots, length-append (page_here root.page) (root_pages roots))
 
--- Files have 4,000,000 pages at most, so they have 816,000,000 roots at most.
-pub few_in_files : (g : Geometry) (units : Units) (v : Volume) → AllZip (HasIndex g units) v.catalog.entries v.files → AllDiffer (file_pages v) → AllZip (HasPages units) v.catalog.entries v.files → AllByRecursion HasBodies v.files
-    → length (roots_in (stored_in v)) ≤ volume_roots_most
-few_in_files g units v indexes differ pages bodies =
+-- Files have 4,000,000 pages at most, so they have 816,000,000 records at most, and as many roots.
+few_records_in : (g : Geometry) (units : Units) (v : Volume) → AllZip (HasIndex g units) v.catalog.entries v.files → AllDiffer (file_pages v) → AllZip (HasPages units) v.catalog.entries v.files → AllByRecursion HasBodies v.files
+    → length (stored_in v) ≤ volume_roots_most
+few_records_in g units v indexes differ pages bodies =
     let area = each_as (IsFilesPage g) (λ (page : ℕ). (257 ≤ page) × (page < 257 + g.pages)) (file_pages v) (λ page is. is.0) (file_pages_are g units v indexes) in
     let few : length (file_pages v) ≤ g.pages = few_once 257 g.pages (file_pages v) area (differ_once (file_pages v) differ) in
-    omega (arith, few, g.few_pages, fewer_roots (stored_in v), few_of_files units v.catalog.entries v.files pages bodies)
+    omega (arith, few, g.few_pages, few_of_files units v.catalog.entries v.files pages bodies)
+
+pub few_stored_in : (g : Geometry) (records : List LogRecord) (units : Units) (v : Volume) → AllByRecursion (HoldsOf g records units v) content_parts → length (stored_in v) ≤ volume_roots_most
+few_stored_in g records units v parts = few_records_in g units v parts.1.0.0 parts.1.0.1 parts.1.1.0 parts.1.1.1.0
+
+pub few_in_files : (g : Geometry) (units : Units) (v : Volume) → AllZip (HasIndex g units) v.catalog.entries v.files → AllDiffer (file_pages v) → AllZip (HasPages units) v.catalog.entries v.files → AllByRecursion HasBodies v.files
+    → length (roots_in (stored_in v)) ≤ volume_roots_most
+few_in_files g units v indexes differ pages bodies = omega (arith, fewer_roots (stored_in v), few_records_in g units v indexes differ pages bodies)
 
 pub few_roots : (g : Geometry) (records : List LogRecord) (units : Units) (v : Volume) → AllByRecursion (HoldsOf g records units v) content_parts → length (roots_in (stored_in v)) ≤ volume_roots_most
 few_roots g records units v parts = few_in_files g units v parts.1.0.0 parts.1.0.1 parts.1.1.0 parts.1.1.1.0

@@ -50,7 +50,7 @@ fn uncommitted(fault: CommitFault) -> Stop
 impl Session {
     ghost use Rattle.disk_model.specs.Outside.{ReadsOnly};
     ghost use Rattle.table_model.specs.Requests as request;
-    ghost use Rattle.session_views.specs.declared.engine.Stop.{Stop};
+    ghost use Rattle.session_views.specs.declared.stop.Stop.{Stop};
     ghost use Rattle.session_views.specs.View.{View, ShowsNow};
     ghost use Rattle.session_core.specs.Commits.{JustReached, LogsCommit, working_reach};
     ghost use Rattle.session_core.specs.Sessions.{FreesGivenBack, SessionState};

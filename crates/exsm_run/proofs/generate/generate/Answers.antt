@@ -12,7 +12,7 @@ use Rattle.exsm_run.proofs.generate.generate.Goals as goal
 pub returns-in-Err-clause-promise : goal.returns-in-Err-clause-promise
 returns-in-Err-clause-promise g c =
     let promise = c.in-Err.ensures in
-    subst (λ (s : Status). GenPromise c.args.seed c.args.count (g.H.World.outside c.args.host.now) (g.H.World.outside c.run_talk.new.host) s) (sym c.status_of.ensures)
+    subst (λ (s : Status). GenPromise g.H.World.outside c.args.seed c.args.count (g.H.World.outside c.args.host.now) (g.H.World.outside c.run_talk.new.host) s) (sym c.status_of.ensures)
     (gen_stopped c.args.seed c.args.count c.make-talk.result c.run_talk.new.talk c.in-Err.stopped (g.H.World.is_world c.args.host.now) c.make-talk.ensures.lines promise.whence promise.headline promise.broken promise.on)
 
 pub returns-in_default-summary-clause-promise : goal.returns-in_default-summary-clause-promise

@@ -26,7 +26,7 @@ returns-in-Format-clause-promise g c =
       moments = promise.any_moment;
       succeeds = λ may. made_or_memory c.in-Format.geometry (g.H.World.outside c.args.host.now) (g.H.World.outside c.format.new.host) c.format.result may answers promise.disk promise.output;
     } in
-    subst (λ (w : Wish). Promise w (g.H.World.outside c.args.host.now) (g.H.World.outside c.format.new.host) c.format.result) (sym c.in-Format.is) whole
+    subst (λ (w : Wish). Promise g.H.World.outside w (g.H.World.outside c.args.host.now) (g.H.World.outside c.format.new.host) c.format.result) (sym c.in-Format.is) whole
 
 pub returns-in-Format-clause-never : goal.returns-in-Format-clause-never
 returns-in-Format-clause-never g c is = subst IsFormatStatus is c.format.ensures.one_of
@@ -39,7 +39,7 @@ returns-in-Run-clause-refused g c refused = absurd (c.run_script.ensures.never r
 
 pub returns-in-Run-clause-promise : goal.returns-in-Run-clause-promise
 returns-in-Run-clause-promise g c =
-    subst (λ (w : Wish). Promise w (g.H.World.outside c.args.host.now) (g.H.World.outside c.run_script.new.host) c.run_script.result) (sym c.in-Run.is)
+    subst (λ (w : Wish). Promise g.H.World.outside w (g.H.World.outside c.args.host.now) (g.H.World.outside c.run_script.new.host) c.run_script.result) (sym c.in-Run.is)
     (run_promise (g.H.World.is_world c.args.host.now) c.run_script.ensures.ran)
 
 pub returns-in-Clients-clause-never : goal.returns-in-Clients-clause-never
@@ -50,5 +50,5 @@ returns-in-Clients-clause-refused g c refused = absurd (c.run_script-in-Clients.
 
 pub returns-in-Clients-clause-promise : goal.returns-in-Clients-clause-promise
 returns-in-Clients-clause-promise g c =
-    subst (λ (w : Wish). Promise w (g.H.World.outside c.args.host.now) (g.H.World.outside c.run_script-in-Clients.new.host) c.run_script-in-Clients.result) (sym c.in-Clients.is)
+    subst (λ (w : Wish). Promise g.H.World.outside w (g.H.World.outside c.args.host.now) (g.H.World.outside c.run_script-in-Clients.new.host) c.run_script-in-Clients.result) (sym c.in-Clients.is)
     (clients_promise (g.H.World.is_world c.args.host.now) c.run_script-in-Clients.ensures.ran)

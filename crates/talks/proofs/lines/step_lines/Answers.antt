@@ -7,7 +7,9 @@ use Rattle.script_lang.specs.Reading.{Asks, Fails}
 use Rattle.talks.specs.Stops.{IsPart}
 use Rattle.talks.specs.Talking.{Left}
 use Rattle.talks.specs.Talking as talking
-use Rattle.talks.proofs.Stopping.{session_stop, session_part, session_lines, sending_lines, sending_sound, taking_lines, taking_sound, disk_or_memory}
+use Rattle.engines.specs.Keeping.{conduct}
+use Rattle.talks.proofs.Rows.{line_just_kept, step_just_kept}
+use Rattle.talks.proofs.Stopping.{session_damaged, session_stop, session_part, session_lines, sending_lines, sending_sound, sending_undamaged, taking_lines, taking_sound, taking_undamaged, disk_or_memory}
 use Rattle.talks.proofs.Going.{reached_start, reached_taken, reached_answered, reached_refused, reply_of_step, cut_taken, cut_step, cut_answered, cut_refused}
 use Rattle.talks.proofs.lines.step_lines.Goals.{in-Refused, in-Step+in-Ok}
 use Rattle.talks.proofs.lines.step_lines.Goals as goal
@@ -37,13 +39,18 @@ returns-in_err-advance-clause-cut g c =
       last = None;
       broken = broken;
       cut = λ opening was same opens. cut_taken (g.T.Talk.talking.text c.lines.talk)
-          (reached_taken (g.H.World.is_world c.lines.host) c.advance.ensures.only (old.reached opening was same opens)) c.in_err-advance.field-0.0;
+          (reached_taken (g.H.World.is_world c.lines.host) c.advance.ensures.only (old.reached opening was same opens)) c.in_err-advance.field-0.0 c.in_err-advance.ensures.stops;
     })
 
 pub returns-in_err-advance-clause-stops : goal.returns-in_err-advance-clause-stops
 returns-in_err-advance-clause-stops g c =
     let p = err_from_is_err_and c.from_residual.result c.from_residual.ensures.1 in
     rw (p.1, p.2) (taking_lines c.in_err-advance.field-0.0 c.in_err-advance.ensures.stops)
+
+pub returns-in_err-advance-clause-damaged : goal.returns-in_err-advance-clause-damaged
+returns-in_err-advance-clause-damaged g c =
+    let p = err_from_is_err_and c.from_residual.result c.from_residual.ensures.1 in
+    rw (p.1, p.2) (taking_undamaged _ _ _ c.in_err-advance.field-0.0 c.in_err-advance.ensures.stops)
 
 pub returns-in_err-advance-clause-whence : goal.returns-in_err-advance-clause-whence
 returns-in_err-advance-clause-whence g c =
@@ -92,8 +99,14 @@ returns-in-Err-clause-cut g c =
           (K.stopped first at entry.left b.left old.had (Asks r) c.stopped_by.result waits c.in-Step.ensures.asked tt part);
       cut = λ opening was same opens.
           let so_far = reached_taken (g.H.World.is_world c.lines.host) c.advance.ensures.only (old.reached opening was same opens) in
-          cut_step (K.text at) r so_far (g.H.World.is_world c.advance.new.host) c.step.ensures.only (c.step.ensures.any_moment so_far.view so_far.is so_far.shows) c.stopped_by.result;
+          cut_step (K.text at) r so_far (g.H.World.is_world c.advance.new.host) c.step.ensures.only (c.step.ensures.any_moment so_far.view so_far.is so_far.shows) c.stopped_by.result
+          c.in-Err.stop c.step.new.self c.stopped_by.ensures (step_just_kept c.advance.new.host c.step.new.host so_far.is so_far.shows c.step.ensures.only c.in-Err.ensures.kept);
     }
+
+pub returns-in-Err-clause-damaged : goal.returns-in-Err-clause-damaged
+returns-in-Err-clause-damaged g c =
+    session_damaged (conduct g.H.World.outside g.E.Engine.keeps) (request_of c.in-Step.command) c.advance.new.host c.step.new.host c.in-Err.stop c.stopped_by.result c.stopped_by.ensures
+    (goes_trans c.lines.invariant.goes c.advance.ensures.only.goes) c.step.ensures.only c.in-Err.ensures.kept
 
 pub returns-in-Err-clause-stops : goal.returns-in-Err-clause-stops
 returns-in-Err-clause-stops g c = session_lines c.stopped_by.result (session_stop c.in-Err.stop c.stopped_by.result c.stopped_by.ensures)
@@ -156,7 +169,7 @@ lines-preserved g c =
                   let so_far = reached_taken lines_world c.advance.ensures.only (old.reached opening was same opens) in
                   let stepped = w.in-Ok.ensures.stepped so_far.view so_far.is so_far.shows in
                   reached_answered so_far (K.tells at told (reply_of_step so_far w.in-Step.ensures.formed stepped)) stepped
-                  early w.step.ensures.only (w.step.ensures.any_moment so_far.view so_far.is so_far.shows) world sent;
+                  (line_just_kept c.advance.new.host w.step.new.host so_far.is so_far.shows w.step.ensures.only w.in-Ok.ensures.kept stepped) early w.step.ensures.only (w.step.ensures.any_moment so_far.view so_far.is so_far.shows) world sent;
             };
           })
     ]
@@ -184,7 +197,7 @@ returns-in_err-tell-clause-cut g c =
             last = Some (Fails refusal);
             broken = broken first entry.left old.had (Fails refusal) waits w.in-Refused.ensures.asked tt;
             cut = λ opening was same opens. cut_refused (K.text at) (reached_taken lines_world c.advance.ensures.only (old.reached opening was same opens)) refusal
-                (K.tells at (reply.No refusal) (talking.refused refusal refl)) early why part;
+                (K.tells at (reply.No refusal) (talking.refused refusal refl)) early why c.in_err-tell.ensures.stops part;
           }
       | in-Step+in-Ok w ↦
           let r = request_of w.in-Step.command in
@@ -200,7 +213,8 @@ returns-in_err-tell-clause-cut g c =
                 let so_far = reached_taken lines_world c.advance.ensures.only (old.reached opening was same opens) in
                 let stepped = w.in-Ok.ensures.stepped so_far.view so_far.is so_far.shows in
                 cut_answered (K.text at) so_far (K.tells at told (reply_of_step so_far w.in-Step.ensures.formed stepped)) stepped
-                early w.step.ensures.only (w.step.ensures.any_moment so_far.view so_far.is so_far.shows) why part;
+                (line_just_kept c.advance.new.host w.step.new.host so_far.is so_far.shows w.step.ensures.only w.in-Ok.ensures.kept stepped)
+                early w.step.ensures.only (w.step.ensures.any_moment so_far.view so_far.is so_far.shows) why c.in_err-tell.ensures.stops part;
           }
     ])
 
@@ -208,6 +222,11 @@ pub returns-in_err-tell-clause-stops : goal.returns-in_err-tell-clause-stops
 returns-in_err-tell-clause-stops g c =
     let p = err_from_is_err_and c.from_residual-in_err-tell.result c.from_residual-in_err-tell.ensures.1 in
     rw (p.1, p.2) (sending_lines c.in_err-tell.field-0.0 c.in_err-tell.ensures.stops)
+
+pub returns-in_err-tell-clause-damaged : goal.returns-in_err-tell-clause-damaged
+returns-in_err-tell-clause-damaged g c =
+    let p = err_from_is_err_and c.from_residual-in_err-tell.result c.from_residual-in_err-tell.ensures.1 in
+    rw (p.1, p.2) (sending_undamaged _ _ _ c.in_err-tell.field-0.0 c.in_err-tell.ensures.stops)
 
 pub returns-in_err-tell-clause-whence : goal.returns-in_err-tell-clause-whence
 returns-in_err-tell-clause-whence g c =

@@ -3,9 +3,12 @@ use Rattle.std.proofs.lemmas.Result.{err_from_is_err_and, IfOk-at_ok, IfErr-at_e
 use Rattle.disk_model.specs.Runs.{goes_trans}
 use Rattle.talks.specs.Headline.{TalkHeadline}
 use Rattle.talks.specs.Stops.{CausedBy, IsLinesStop, IsSessionStop}
+use Rattle.engines.specs.Keeping.{conduct}
+use Rattle.talks.specs.Passage.{ByDamagedStep}
 use Rattle.talks.specs.Talking.{Left}
+use Rattle.talks.specs.Transcript.{StoppedAbort}
 use Rattle.talks.proofs.Going.{cut_ending}
-use Rattle.talks.proofs.Stopping.{by_ending, caused_later, if_err_from, opening_stop, session_lines, session_part}
+use Rattle.talks.proofs.Stopping.{by_ending, caused_later, damaged_since, if_err_from, opening_stop, session_lines, session_part}
 use Rattle.talks.proofs.Whole.{leaves_table, run_opened, run_unopened, unopened, opens_of, stepped_whole, stepped_cut}
 use Rattle.talks.proofs.run.run_talk.Goals as goal
 
@@ -56,6 +59,7 @@ returns-in_err-step_lines-clause-on g c =
     let now = g.H.World.outside c.step_lines.new.host in
     rw (p.1, p.2) (run_opened {T = Unit {0}} {a = a} {b = now} (Err why) c.in_ok-session.ensures.opened c.in_err-step_lines.ensures.stops
     (caused_later why a (g.H.World.outside c.open.new.host) now c.open.ensures.only.goes c.in_err-step_lines.ensures.caused)
+    (damaged_since _ why c.open.ensures.only.goes c.in_err-step_lines.ensures.damaged)
     (λ table was on.
     let opened = c.in_ok-session.ensures.shows on.image table on.honest on.holds on.stands in
     c.in_err-step_lines.ensures.sound opened.view was opened.is (opens_of on c.open.ensures.only opened)))
@@ -78,13 +82,16 @@ returns-clause-headline g c table was starts =
     let over = subst (λ (left : Left). K.Over c.args.talk.now left ran.had talk (g.H.World.outside c.abort_open.new.host).left) c.open.ensures.only.left
     (subst (λ (at : Left). K.Over c.args.talk.now (g.H.World.outside c.open.new.host).left ran.had talk at) (sym c.abort_open.ensures.only.left) ran.over) in
     let any = c.abort_open.ensures.any_moment so_far.view so_far.is so_far.shows in
-    by_ending c.abort_open.result (TalkHeadline g.E.Engine.meaning g.E.Opener.fresh K c.args.talk.now talk table was (g.H.World.outside c.args.host.now) (g.H.World.outside c.abort_open.new.host))
+    let M = g.E.Engine.meaning in
+    let C = conduct g.H.World.outside g.E.Engine.keeps in
+    by_ending c.abort_open.result (TalkHeadline M C g.E.Opener.fresh K c.args.talk.now talk table was (g.H.World.outside c.args.host.now) (g.H.World.outside c.abort_open.new.host))
     (λ x is. inl (stepped_whole K c.args.talk.now talk (g.H.World.is_world c.args.host.now) (g.H.World.is_world c.open.new.host) (g.H.World.is_world c.step_lines.new.host) starts c.open.ensures.only leaves opened so_far
     c.abort_open.ensures.only any (IfOk-at_ok (λ _. _) is (c.abort_open.ensures.aborted so_far.view so_far.is so_far.shows)) over))
     (λ why is.
     let part = session_part why (IfErr-at_err IsSessionStop is c.abort_open.ensures.stops) in
+    let stopped = IfErr-at_err (StoppedAbort M C (g.H.World.outside c.step_lines.new.host).clock (g.H.World.outside c.abort_open.new.host) so_far.view) is (c.abort_open.ensures.stopped so_far.view so_far.is so_far.shows) in
     inl (stepped_cut K c.args.talk.now talk talk (g.H.World.is_world c.args.host.now) (g.H.World.is_world c.open.new.host) starts c.open.ensures.only leaves opened why
-    (cut_ending (K.text talk) so_far (g.H.World.is_world c.step_lines.new.host) c.abort_open.ensures.only any why)
+    (cut_ending (K.text talk) so_far (g.H.World.is_world c.step_lines.new.host) c.abort_open.ensures.only any why stopped.stop stopped.session stopped.is stopped.kept)
     (K.ended c.args.talk.now talk (g.H.World.outside c.args.host.now).left (g.H.World.outside c.abort_open.new.host).left ran.had why over part)))
 
 pub returns-clause-on : goal.returns-clause-on
@@ -92,10 +99,12 @@ returns-clause-on g c =
     let a = g.H.World.outside c.args.host.now in
     let now = g.H.World.outside c.abort_open.new.host in
     let goes = goes_trans c.open.ensures.only.goes c.step_lines.ensures.goes in
+    let C = conduct g.H.World.outside g.E.Engine.keeps in
     run_opened {a = a} {b = now} c.abort_open.result c.in_ok-session.ensures.opened
     (IfErr-weaker c.abort_open.result IsSessionStop IsLinesStop session_lines c.abort_open.ensures.stops)
     (IfErr-weaker c.abort_open.result (λ why. CausedBy why (g.H.World.outside c.step_lines.new.host) now) (λ why. CausedBy why a now)
     (λ why caused. caused_later why a (g.H.World.outside c.step_lines.new.host) now goes caused) c.abort_open.ensures.caused)
+    (IfErr-weaker c.abort_open.result (ByDamagedStep C (g.H.World.outside c.step_lines.new.host) now) (ByDamagedStep C a now) (λ why by. damaged_since C why goes by) c.abort_open.ensures.damaged)
     (λ table was on.
     let opened = c.in_ok-session.ensures.shows on.image table on.honest on.holds on.stands in
     let so_far = c.in_ok-step_lines.ensures.whole.reached opened.view was opened.is (opens_of on c.open.ensures.only opened) in

@@ -1,6 +1,6 @@
 use Rattle.std.proofs.Common.{sym, ◌≡◌, Some}
 use Rattle.table_model.specs.Requests.{reference_of}
-use Rattle.session_views.specs.declared.engine.Stop.TheVariants as stop
+use Rattle.session_views.specs.declared.stop.Stop.TheVariants as stop
 use Rattle.transactions.specs.Asking.{asked_change}
 use Rattle.transactions.proofs.Changed.{admitted_so, answered_so, change_left, change_refused, change_stopped, changed_so, within_so}
 use Rattle.transactions.specs.Lines.{WentOn}

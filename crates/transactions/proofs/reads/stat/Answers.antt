@@ -1,6 +1,6 @@
 use Rattle.std.proofs.Common.{◌≡◌, ◌∙◌, ℕ, min, take, refl, ap}
 use Rattle.table_model.specs.Requests.{reference_of}
-use Rattle.session_views.specs.declared.engine.Stop.TheVariants as stop
+use Rattle.session_views.specs.declared.stop.Stop.TheVariants as stop
 use Rattle.transactions.proofs.Naming.{misses_so, names_so}
 use Rattle.transactions.proofs.Shaping.{stat_large, stat_refused, stat_small, stat_stopped}
 use Rattle.session_core.proofs.Damage.{none_wider, shape_damage}

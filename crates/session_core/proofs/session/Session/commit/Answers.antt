@@ -18,7 +18,7 @@ use Rattle.commits.specs.declared.keep.CommitFault.{CommitFault}
 use Rattle.table_model.specs.Machines.{updates_most}
 use Rattle.table_model.specs.Requests as request
 use Rattle.volume_port.specs.GivingUp.{OwnRoots, IsGivingFault}
-use Rattle.session_views.specs.declared.engine.Stop.TheVariants as stop
+use Rattle.session_views.specs.declared.stop.Stop.TheVariants as stop
 use Rattle.session_core.specs.contracts.session.Session as session
 use Rattle.session_core.specs.Sessions.{IsSession, SessionState}
 use Rattle.session_core.proofs.Accepted.{commit_spent, no_open_txn}

@@ -7,7 +7,7 @@ use Rattle.ex_base.specs.declared.names.OpNote.{OpNote}
 use Rattle.ex_base.specs.Ports.{IsDamage}
 use Rattle.ex_base.specs.Sizes.{volume_bytes}
 use Rattle.meta_pages.specs.Overlays.{Overlays}
-use Rattle.session_views.specs.declared.engine.Stop.{Stop}
+use Rattle.session_views.specs.declared.stop.Stop.{Stop}
 use Rattle.table_model.specs.Machines.{shown, touched_most, updates_most}
 use Rattle.volume_port.specs.declared.state.VolumeState.{VolumeState}
 use Rattle.session_core.specs.Counts.{free_in}

@@ -4,24 +4,13 @@ ghost use Rattle.disk_model.specs.Outside.{DiskOnly, Leaves, ReadsOnly, Rose};
 ghost use Rattle.table_model.specs.Requests.{request_of, is_request};
 ghost use Rattle.table_model.specs.Requests as request;
 ghost use Rattle.session_views.specs.View.{View, Meaning, ShowsNow, Stepped, StandsDuring};
+ghost use Rattle.engines.specs.Keeping.{Keeping};
 
 use disk_model::Host;
 use ex_base::{PageNo, Seen};
+use session_views::Stop;
 use std::alloc::Global;
 use table_model::{Command, Reply};
-
-/// Why a session stopped.
-#[derive(Clone, Copy, Debug, PartialEq, Eq)]
-pub enum Stop {
-    /// No memory was there.
-    Memory,
-    /// The disk failed: its count of faults rose.
-    Disk,
-    /// What a read gave isn't what the page that names it says. `want` and `got` differ.
-    Damaged { page: PageNo, want: Seen, got: Seen },
-    /// An earlier call of the session met one of the others.
-    Down,
-}
 
 /// A session that steps on commands.
 pub trait Engine {
@@ -33,6 +22,9 @@ pub trait Engine {
 
     /// A disk of so many bytes is as large as the volume that it was opened on.
     ghost fits: { Self → ℕ → Type 0 };
+
+    /// What each of its steps keeps.
+    ghost keeps: { Keeping Self };
 
     /// Steps on a command, to its reply. Refusals are replies.
     fn step<H: Host>(
@@ -49,6 +41,10 @@ pub trait Engine {
             → Rose (H.outside host.old).disk_faults (H.outside host.new).disk_faults }
         ensures damaged { (page : PageNo) (want got : Seen)
             → result ≡ Err (Stop.Damaged page want got) → want ≢ got }
+
+        // Whatever it gives, it keeps what its steps keep.
+        ensures kept { keeps self.old self.new (H.outside host.old) (H.outside host.new)
+            (request_of command.now) result }
 
         // From a view that shows to a view that shows, by the machine's step.
         ensures stepped { (before : View Self) → before.session ≡ self.old
