@@ -10,6 +10,7 @@ pub mod Streaming
 pub mod OutsidesSent
 pub mod Catalogs
 pub mod Pairing
+pub mod Pushing
 pub mod Contents
 pub mod Putting
 pub mod Listing

@@ -1,2 +1,3 @@
-pub mod Gathered
-pub mod Walked
+pub mod Bodies
+pub mod Rows
+pub mod Under

@@ -1,7 +1,10 @@
-//! The records of a file, in order of place: one pass over any volume, in which each record's body is looked at once.
+//! The records of a file, in order of place: one pass over any volume, in which each page of the file and of its index is read and tested once.
 #![tactic(auto)]
 
+mod catalog;
+mod indexes;
 mod listing;
+mod pages;
 
 use ex_base::{Place, Root};
 pub use listing::list_records;

@@ -5,7 +5,7 @@ use Rattle.trees.specs.declared.Pair.{Pair}
 use Rattle.history_plans.specs.Plans.{pages_at}
 use Rattle.history_volumes.specs.Transcribed.{number_in}
 use Rattle.history_dump.specs.Items.{IsNumbered}
-use Rattle.record_lists.proofs.Walked.{pushed}
+use Rattle.history_dump.proofs.Pushing.{pushed}
 use Rattle.history_dump.proofs.Pairing.{pair_all, pair_more, pair_none}
 use Rattle.history_dump.proofs.node.number_pairs.Goals as goal
 
