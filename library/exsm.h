@@ -89,8 +89,7 @@ enum {
     EXSM_IN_USE = 105,      /* exsm_open: another process, or another handle, has the volume */
     EXSM_OS = 106,          /* exsm_open, exsm_format: the file can't be opened, made, locked or mapped; os_error has the system's reason */
     EXSM_IS_VOLUME = 107,   /* exsm_core_make: the image holds a volume already; it is as it was */
-    EXSM_TOO_SMALL = 108,   /* exsm_core_make: the image is smaller than the volume; it is as it was */
-    EXSM_STRANGE = 109      /* the core gave a reply of another kind; never where the volume is whole */
+    EXSM_TOO_SMALL = 108    /* exsm_core_make: the image is smaller than the volume; it is as it was */
 };
 
 /* What a result says, as a sentence without a full stop: "no transaction is open". Of a number that is none of the above, that it is unknown. The text
@@ -208,7 +207,7 @@ int exsm_line(exsm *db, const char *line, size_t len, const char **reply, size_t
 
 /* Each of these does what its line in docs/RULES.md does, and is refused where that is, in its order, but that no text is made or read. An answer other than
  * EXSM_OK leaves what the call fills as it was; at a fault it may have any values. Of what a call fills, a pointer that may be null is said to be. Besides
- * EXSM_OK and the refusals that are named, each may be answered EXSM_MISUSE, EXSM_NOMEM, EXSM_DISK, EXSM_DAMAGED, EXSM_DOWN or EXSM_STRANGE.
+ * EXSM_OK and the refusals that are named, each may be answered EXSM_MISUSE, EXSM_NOMEM, EXSM_DISK, EXSM_DAMAGED or EXSM_DOWN.
  *
  * A name has 1 to 32 bytes of a-z, 0-9 and _, and is ended by a zero byte; another one is EXSM_SYNTAX. */
 
@@ -356,7 +355,7 @@ int exsm_check(exsm *db, exsm_counts *out);
  * who keeps a volume elsewhere, in a container, in memory or on a device of its own, and tests.
  *
  * The caller lends the library the bytes of the volume, the image, at each call that takes it. A call changes the image, and lists the calls that are to be
- * made on the disk, writes and syncs. Once they are made, in their order, before the call's reply is used, and until none is left, the disk holds what the
+ * made on the disk, writes and syncs. Once they are made, in their order, before the call's reply is used, the disk holds what the
  * image holds. Where one of them can't be made, make none after it, and close. A disk that stops between two of them, or in the midst of one, holds what an
  * opening opens: the committed state before the call, or in a commit that one or the next.
  *
@@ -397,11 +396,12 @@ void exsm_core_why(exsm_core *core, exsm_reason *out);
 /* How many calls are listed. */
 size_t exsm_core_asked(exsm_core *core);
 
-/* Tells the listed call of a number from 0 on, and copies the bytes of a write to the front of `out` where they fit, else none. EXSM_OK, or EXSM_MISUSE where
- * no call has the number. */
+/* Tells the listed call of a number from 0 on, and copies the bytes of a write to the front of `out`, as many as it has room for. EXSM_OK, or EXSM_MISUSE
+ * where no call has the number. */
 uint32_t exsm_core_call(exsm_core *core, size_t number, exsm_asked *what, uint8_t *out, size_t room);
 
-/* All listed calls were made: forgets them. */
+/* All listed calls were made, and a sync has settled them: forgets them. Those that were made and not settled stay listed, since a crash may still lose them;
+ * who makes the calls goes on behind them at the next step. */
 void exsm_core_made(exsm_core *core);
 
 /* Steps on a line without its line feed. EXSM_OK, also where it has no reply; a refusal; EXSM_MISUSE where the image has another length than the opened one,

@@ -23,6 +23,9 @@
 /* Bytes that one call writes at most where several listed writes are made as one. */
 #define JOINED_MOST ((size_t)1 << 20)
 
+/* Bytes of writes that were made and stay listed at most, before they are settled for that. */
+#define KEPT_MOST ((uint64_t)16 << 20)
+
 /* Bytes of pages of the image that are this process' own, before they are given back. */
 #define PRIVATE_MOST ((uint64_t)8 << 20)
 
@@ -93,8 +96,6 @@ const char *exsm_text(int code)
         return "a volume is there already";
     case EXSM_TOO_SMALL:
         return "the image is smaller than the volume";
-    case EXSM_STRANGE:
-        return "the core gave a reply of another kind";
     default:
         return "an unknown number";
     }
@@ -290,6 +291,7 @@ static void count_waiting(exsm *db)
 static int write_joined(exsm *db, uint64_t at, size_t len)
 {
     db->private_most += len + PAGE_MOST;
+    db->kept += len;
     return unless(db, write_whole(db->fd, db->joined, len, at), EXSM_DISK);
 }
 
@@ -328,20 +330,37 @@ static void give_back(exsm *db)
     db->private_most = 0;
 }
 
+/* All that is listed was made. Forgets it where a sync came last, and else, where it is long, behind a sync: what no sync settled may be lost by a crash, so the
+ * core has to know of it. A result. */
+static int forget(exsm *db, int is_settled)
+{
+    if (!is_settled && db->kept <= KEPT_MOST)
+        return EXSM_OK;
+    int code = is_settled ? EXSM_OK : unless(db, sync_file(db->fd), EXSM_DISK);
+    if (code != EXSM_OK)
+        return code;
+    exsm_core_made(&db->core);
+    db->done = 0;
+    db->kept = 0;
+    db->counted = 0;
+    return EXSM_OK;
+}
+
 int make_calls(exsm *db, size_t count)
 {
-    for (size_t next = 0; next < count;) {
+    int is_settled = db->done == 0;
+    while (db->done < count) {
         exsm_asked what;
-        exsm_core_call(&db->core, next, &what, NULL, 0);
-        int code = what.is_write ? make_writes(db, &next, count) : make_sync(db, &next);
+        exsm_core_call(&db->core, db->done, &what, NULL, 0);
+        is_settled = !what.is_write;
+        int code = what.is_write ? make_writes(db, &db->done, count) : make_sync(db, &db->done);
         if (code != EXSM_OK)
             return code;
     }
-    exsm_core_made(&db->core);
-    db->counted = 0;
+    db->counted = db->done;
     db->waiting = 0;
     give_back(db);
-    return EXSM_OK;
+    return count == exsm_core_asked(&db->core) ? forget(db, is_settled) : EXSM_OK;
 }
 
 /* Whether the listed calls are to be made now. */

@@ -12,6 +12,8 @@ struct exsm {
     uint8_t *is_ours;   /* a byte that is 1 in this process and 0 in a forked child, as the system sees to; null where it can't */
     uint8_t *image;     /* null where it has no bytes */
     size_t image_len;
+    size_t done;        /* listed calls that were made: they stay listed until a sync settles them */
+    uint64_t kept;      /* bytes that those write */
     size_t counted;     /* listed calls that `waiting` counts */
     uint64_t waiting;   /* bytes that listed calls write, as far as they are counted */
     uint64_t private_most; /* bytes of pages of the image that are this process' own, at most */
@@ -37,7 +39,8 @@ int write_whole(int fd, const uint8_t *bytes, size_t len, uint64_t at);
 /* Maps the file of `image_len` bytes privately, or reads it. A result. */
 int take_image(exsm *db);
 
-/* Makes the first `count` calls that are listed, in their order, up to one that fails, and forgets the list. A result. */
+/* Makes the first `count` calls that are listed, in their order, up to one that fails, but for those that were made already. The list is forgotten once a
+ * sync has settled all of it. A result. */
 int make_calls(exsm *db, size_t count);
 
 /* Lets the volume go: no call on it is made from here on. A forked child leaves the lock to its parent. */

@@ -96,6 +96,12 @@ static bool tell_long(struct fake *fake, size_t len)
     return is_told;
 }
 
+static bool tell_listed(struct fake *fake)
+{
+    char text[32];
+    return tell(fake, text, (size_t)sprintf(text, "ok %zu", fake->count));
+}
+
 static uint32_t refuse(struct fake *fake, uint32_t number)
 {
     char text[32];
@@ -139,6 +145,8 @@ static uint32_t do_word(struct fake *fake, uint8_t *image, size_t image_len, con
         is_done = tell_long(fake, len);
     else if (strcmp(word, "z") == 0)
         is_done = tell(fake, "ok\0z", 4);
+    else if (strcmp(word, "l") == 0)
+        is_done = tell_listed(fake);
     else if (sscanf(word, " n %lu", &len) == 1)
         return refuse(fake, (uint32_t)len);
     else if (sscanf(word, " f %lu", &len) == 1)

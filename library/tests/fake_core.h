@@ -8,10 +8,11 @@
  *     r AT LEN        replies `ok` and the bytes at a place, as digits
  *     t LEN           replies `ok`, a space and LEN times the letter x
  *     z               replies `ok`, a zero byte and `z`
+ *     l               replies `ok` and how many calls are listed
  *     n NUMBER        replies `no NUMBER`, and answers the number
  *     f CODE          answers a fault, behind what was listed before
  *
- * A line without words has no reply; another one without r, t, z, n and f is replied `ok`.
+ * A line without words has no reply; another one without r, t, z, l, n and f is replied `ok`.
  */
 #ifndef FAKE_CORE_H
 #define FAKE_CORE_H

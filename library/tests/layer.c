@@ -169,6 +169,30 @@ static void adjacent_writes_are_one(void)
     CHECK(exsm_close(db) == EXSM_OK);
 }
 
+/* What was made and may be lost by a crash stays listed, and is made once. */
+static void calls_stay_listed_until_a_sync(void)
+{
+    exsm *db = new_volume(0);
+    CHECK(line(db, "w 100 5 61") == EXSM_OK && replies(db, "l", EXSM_OK, "ok 1"));
+    CHECK(line(db, "w 200 5 62;s;w 300 5 63") == EXSM_OK && replies(db, "l", EXSM_OK, "ok 4"));
+    CHECK(made(4, 100L, 5L, 200L, 5L, SYNC, 300L, 5L));
+    CHECK(line(db, "s") == EXSM_OK && replies(db, "l", EXSM_OK, "ok 0"));
+    CHECK(made(5, 100L, 5L, 200L, 5L, SYNC, 300L, 5L, SYNC));
+    CHECK(exsm_close(db) == EXSM_OK && calls.count == 5);
+}
+
+/* They don't grow without end: a sync of the layer's own settles them. */
+static void long_lists_are_settled(void)
+{
+    calls_anew();
+    make_volume(17 << 20, FAKE_NO_LOG);
+    exsm *db = opened(0);
+    CHECK(line(db, "w 1000 16777216 61") == EXSM_OK && replies(db, "l", EXSM_OK, "ok 1"));
+    CHECK(line(db, "w 100 1 62") == EXSM_OK && replies(db, "l", EXSM_OK, "ok 0"));
+    CHECK(made(3, 1000L, 16777216L, 100L, 1L, SYNC));
+    CHECK(exsm_close(db) == EXSM_OK && calls.count == 3);
+}
+
 static void replies_are_whole(void)
 {
     exsm *db = new_volume(0);
@@ -580,12 +604,12 @@ static void kills_leave_a_front(void)
 static void texts_are_there(void)
 {
     const int codes[] = {EXSM_ROOM, EXSM_MISUSE, EXSM_NOMEM, EXSM_DISK, EXSM_DAMAGED, EXSM_DOWN, EXSM_BAD_VOLUME, EXSM_IN_USE, EXSM_OS,
-        EXSM_IS_VOLUME, EXSM_TOO_SMALL, EXSM_STRANGE};
+        EXSM_IS_VOLUME, EXSM_TOO_SMALL};
     for (int code = EXSM_OK; code <= EXSM_BUSY; code++)
         CHECK(strlen(exsm_text(code)) > 3 && strcmp(exsm_text(code), exsm_text(-1)) != 0);
     for (size_t i = 0; i < sizeof codes / sizeof codes[0]; i++)
         CHECK(strlen(exsm_text(codes[i])) > 3 && strcmp(exsm_text(codes[i]), exsm_text(-1)) != 0);
-    CHECK(strcmp(exsm_text(26), exsm_text(99)) == 0 && strcmp(exsm_text(110), exsm_text(-1)) == 0);
+    CHECK(strcmp(exsm_text(26), exsm_text(99)) == 0 && strcmp(exsm_text(109), exsm_text(-1)) == 0);
     CHECK(strcmp(exsm_text(EXSM_NO_TXN), "no transaction is open") == 0);
     CHECK(strchr(exsm_version(), '.') != NULL);
 }
@@ -593,6 +617,8 @@ static void texts_are_there(void)
 static const struct test tests[] = {
     {"calls_in_order", calls_in_order},
     {"adjacent_writes_are_one", adjacent_writes_are_one},
+    {"calls_stay_listed_until_a_sync", calls_stay_listed_until_a_sync},
+    {"long_lists_are_settled", long_lists_are_settled},
     {"replies_are_whole", replies_are_whole},
     {"openings_write", openings_write},
     {"misuse_is_answered", misuse_is_answered},

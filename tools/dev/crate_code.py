@@ -103,7 +103,8 @@ class Function:
 ITEM = re.compile(
     r"(?:unsafe )?(?:(impl)(?:<[^{]*?>)? (?:([\w:]+)(?:<[^{]*>)? for )?([\w:]+)"
     r"|(?:pub(?:\([a-z]+\))? )?(trait) (\w+))")
-HEAD = re.compile(r"\s*((?:pub(?:\([a-z]+\))? )?)(?:const )?(?:unsafe )?fn (\w+)")
+HEAD = re.compile(
+    r"\s*((?:pub(?:\([a-z]+\))? )?)(?:const )?(?:unsafe )?(?:extern \"C\" )?fn (\w+)")
 
 
 def read_functions(crate: str, path: str) -> list[Function]:

@@ -42,6 +42,14 @@ class CodeTest(InToy):
                          (None, [""], False, "fitted"))
         self.assertEqual(fitted.end, len(lines) + 1)
 
+    def test_exports(self) -> None:
+        """an exported function is read as any other"""
+        path = self.folder / "crates" / "low" / "src" / "calls.rt"
+        path.write_text('#[unsafe(no_mangle)]\npub extern "C" fn low_size(x: u32) -> u32\n'
+                        "    ensures code { result ≡ 0 }\n{\n    0\n}\n", encoding="utf-8")
+        sizes = self.function(crate_code.Sources(), "low_size")
+        self.assertEqual((sizes.clauses, sizes.is_public), (["code"], True))
+
     def test_traits(self) -> None:
         """a method without clauses has those of its trait, and the ghosts of its impl"""
         sources = crate_code.Sources()

@@ -1,9 +1,11 @@
 //! What an export answers, as numbers.
-ghost use Rattle.std.specs.Prelude.{◌≡◌, ◌≤◌};
-ghost use Rattle.exsm_c.specs.Codes.{code_of_stop, number_of};
+ghost use Rattle.std.specs.Prelude.{◌≡◌};
+ghost use Rattle.exsm_c.specs.Codes.{code_of_fault, code_of_status, code_of_stop, code_of_why, number_of};
 
+use exsm_run::Status;
 use session_views::{OpenFault, Stop};
 use table_model::Refusal;
+use volume_calls::NotDone;
 
 /// Done.
 pub const OK: u32 = 0;
@@ -31,9 +33,6 @@ pub const IS_VOLUME: u32 = 107;
 
 /// The image is smaller than the volume that is to be made.
 pub const TOO_SMALL: u32 = 108;
-
-/// A reply of a kind that no session gives which shows its volume.
-pub const STRANGE: u32 = 109;
 
 /// The number of a refusal.
 pub(crate) fn number_of(why: Refusal) -> u32
@@ -79,12 +78,36 @@ pub(crate) fn code_of_stop(stop: Stop) -> u32
     }
 }
 
+/// The code of a call that wasn't done.
+pub(crate) fn code_of(why: NotDone) -> u32
+    ensures { result ≡ code_of_why why }
+{
+    match why {
+        NotDone::Misuse => MISUSE,
+        NotDone::Refused(why) => number_of(why),
+        NotDone::Stopped(stop) => code_of_stop(stop),
+        NotDone::Untold => NO_MEMORY,
+    }
+}
+
 /// The code of a volume that wasn't opened.
 pub(crate) fn code_of_fault(fault: OpenFault) -> u32
-    ensures { 100 ≤ result }
+    ensures { result ≡ code_of_fault fault }
 {
     match fault {
         OpenFault::Memory | OpenFault::Disk => NO_MEMORY,
         OpenFault::BadVolume { .. } => BAD_VOLUME,
+    }
+}
+
+/// The code of how a volume was made. It is whole before it is told, which a lent host has no sink for.
+pub(crate) fn code_of_status(status: Status) -> u32
+    ensures { result ≡ code_of_status status }
+{
+    match status {
+        Status::Done | Status::OutputFault => OK,
+        Status::AlreadyVolume => IS_VOLUME,
+        Status::TooSmall { .. } => TOO_SMALL,
+        _ => NO_MEMORY,
     }
 }

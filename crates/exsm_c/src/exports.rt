@@ -1,4 +1,4 @@
-//! What C calls. An open handle is passed to one call at a time.
+//! What C calls. An open handle is passed to one call at a time, with the image as the handle's last call left it.
 pub(crate) mod asked;
 pub(crate) mod edits;
 pub(crate) mod files;

@@ -4,9 +4,11 @@
 mod codes;
 mod exports;
 mod handle;
-mod lent;
+mod making;
 mod open;
 mod passed;
+mod steps;
+mod told;
 
 pub use exports::asked::{exsm_core_asked, exsm_core_call, exsm_core_made};
 pub use exports::edits::{

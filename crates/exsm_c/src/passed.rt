@@ -1,11 +1,14 @@
 //! What C passes and gets filled, laid out as C does.
-ghost use Rattle.std.specs.Prelude.{◌≡◌, ◌≤◌};
-ghost use Rattle.table_model.specs.Words.{data_most};
+ghost use Rattle.std.specs.Prelude.{◌≡◌};
+ghost use Rattle.exsm_c.specs.Codes.{number_of_part};
+ghost use Rattle.exsm_c.specs.Most.{most_of};
 
+use crate::codes::code_of;
 use ex_base::{Area, Oid};
 use session_views::{Part, Stop};
-use table_model::{Command, DATA_MOST, Given, Refusal, Subject};
+use table_model::{Refusal, Subject};
 use transactions::Summary;
+use volume_calls::NotDone;
 
 /// The identifier of a version.
 #[repr(C)]
@@ -17,7 +20,24 @@ pub struct Identifier {
 }
 
 impl Identifier {
-    pub(crate) fn of(oid: Oid) -> Identifier {
+    ghost use Rattle.std.specs.Prelude.{◌≡◌};
+    ghost use Rattle.exsm_c.specs.Told.{identifier_of, no_identifier, numbered};
+    ghost use Rattle.table_model.specs.Requests.{reference_of};
+
+    /// That of no version.
+    pub(crate) fn none() -> Identifier
+        ensures { result ≡ no_identifier }
+    {
+        Identifier {
+            page: 0,
+            slot: 0,
+            unique: 0,
+        }
+    }
+
+    pub(crate) fn of(oid: Oid) -> Identifier
+        ensures { result ≡ identifier_of oid }
+    {
         Identifier {
             page: oid.page.0,
             slot: oid.slot,
@@ -25,10 +45,13 @@ impl Identifier {
         }
     }
 
-    pub(crate) fn subject(&self) -> Subject<'_> {
+    /// The version that it names.
+    pub(crate) fn subject(&self) -> Subject<'_>
+        ensures { reference_of result ≡ numbered self.now }
+    {
         Subject::Number {
-            page: u64::from(self.page),
-            slot: u64::from(self.slot),
+            page: self.page as u64,
+            slot: self.slot as u64,
             unique: self.unique,
         }
     }
@@ -65,28 +88,6 @@ pub struct Shape {
     pub height: u8,
 }
 
-impl Shape {
-    /// That of one record.
-    pub(crate) fn small(size: u64) -> Shape {
-        Shape {
-            size,
-            leaves: 0,
-            is_large: false,
-            height: 0,
-        }
-    }
-
-    /// That of a tree.
-    pub(crate) fn large(size: u64, height: u8, leaves: u64) -> Shape {
-        Shape {
-            size,
-            leaves,
-            is_large: true,
-            height,
-        }
-    }
-}
-
 /// What a volume holds. A count that is over 64 bits is told as the largest.
 #[repr(C)]
 #[derive(Clone, Copy)]
@@ -100,7 +101,12 @@ pub struct Counts {
 }
 
 impl Counts {
-    pub(crate) fn of(summary: &Summary) -> Counts {
+    ghost use Rattle.std.specs.Prelude.{◌≡◌};
+    ghost use Rattle.exsm_c.specs.Told.{counts_of};
+
+    pub(crate) fn of(summary: &Summary) -> Counts
+        ensures { result ≡ counts_of summary.now }
+    {
         Counts {
             last: summary.last,
             files: u64::from(summary.files),
@@ -112,7 +118,9 @@ impl Counts {
     }
 }
 
-fn most_of(count: u128) -> u64 {
+fn most_of(count: u128) -> u64
+    ensures { result ≡ most_of count }
+{
     if count < u64::MAX as u128 {
         count as u64
     } else {
@@ -157,8 +165,8 @@ pub struct Why {
 }
 
 impl Why {
-    /// A code with nothing besides.
-    pub(crate) fn code(code: u32) -> Why {
+    // A code with nothing besides.
+    fn code(code: u32) -> Why {
         Why {
             code,
             scans: false,
@@ -178,8 +186,19 @@ impl Why {
         }
     }
 
-    /// Why a line was refused, with this code.
-    pub(crate) fn refusal(code: u32, why: Refusal) -> Why {
+    /// Why a call wasn't done: one that is none has the code 0.
+    pub(crate) fn of(why: Option<NotDone>) -> Why {
+        match why {
+            None => Why::code(0),
+            Some(NotDone::Misuse) => Why::code(code_of(NotDone::Misuse)),
+            Some(NotDone::Refused(why)) => Why::refusal(code_of(NotDone::Refused(why)), why),
+            Some(NotDone::Untold) => Why::code(code_of(NotDone::Untold)),
+            Some(NotDone::Stopped(stop)) => Why::stop(code_of(NotDone::Stopped(stop)), stop),
+        }
+    }
+
+    // Why a call was refused, with this code.
+    fn refusal(code: u32, why: Refusal) -> Why {
         let mut told = Why::code(code);
         match why {
             Refusal::TooMany { scans } => told.scans = scans,
@@ -201,8 +220,8 @@ impl Why {
         told
     }
 
-    /// Why the session stopped, with this code.
-    pub(crate) fn stop(code: u32, stop: Stop) -> Why {
+    // Why the session stopped, with this code.
+    fn stop(code: u32, stop: Stop) -> Why {
         let mut told = Why::code(code);
         if let Stop::Damaged { page, want, got } = stop {
             told.page = page.0;
@@ -218,7 +237,9 @@ impl Why {
 }
 
 /// The number of a part of a volume, in the order in which an opening tests them.
-pub(crate) fn number_of_part(part: Part) -> u8 {
+pub(crate) fn number_of_part(part: Part) -> u8
+    ensures { result ≡ number_of_part part }
+{
     match part {
         Part::Super => 1,
         Part::Log => 2,
@@ -229,51 +250,5 @@ pub(crate) fn number_of_part(part: Part) -> u8 {
         Part::Node => 7,
         Part::Balance => 8,
         Part::Unique => 9,
-    }
-}
-
-/// Copies bytes to the front of `out`, as many as it has room for, and says how many.
-pub(crate) fn put_front(out: &mut [u8], bytes: &[u8]) -> usize {
-    if bytes.len() <= out.len() {
-        out[..bytes.len()].copy_from_slice(bytes);
-        bytes.len()
-    } else {
-        out.copy_from_slice(&bytes[..out.len()]);
-        out.len()
-    }
-}
-
-/// The name of a group, where one is given.
-pub(crate) fn group_of(group: &[u8]) -> Option<&[u8]> {
-    if group.is_empty() { None } else { Some(group) }
-}
-
-/// The count of bytes that is asked for. One that is over the limit of a call stays so.
-pub(crate) fn wanted(count: usize) -> u32
-    ensures { count ≤ data_most → result ≡ count }
-{
-    if count <= DATA_MOST as usize {
-        count as u32
-    } else {
-        DATA_MOST + 1
-    }
-}
-
-fn is_long(given: &Given<'_>) -> bool {
-    match given {
-        Given::Bytes(bytes) => bytes.len() > DATA_MOST as usize,
-        Given::Word(_) => false,
-    }
-}
-
-/// Whether more bytes are given or asked for than one call may.
-pub(crate) fn is_over(command: &Command<'_>) -> bool {
-    match command {
-        Command::Read { len, .. } => *len > DATA_MOST,
-        Command::Next { len, .. } => *len > DATA_MOST,
-        Command::Append { given, .. } => is_long(given),
-        Command::Insert { given, .. } => is_long(given),
-        Command::Replace { given, .. } => is_long(given),
-        _ => false,
     }
 }

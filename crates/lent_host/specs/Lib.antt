@@ -1,1 +1,3 @@
-pub mod Asked
+pub mod Host
+pub mod Hushed
+pub mod Lent

@@ -1,10 +1,10 @@
-//! The host. It tells nothing of the content of its outside, as a host over a file; beside that it says what its calls make of the image.
-ghost use Rattle.std.specs.Prelude.{◌≡◌, ◌≤◌, ◌<◌, ◌+◌, List, ℕ, Some, length, IfOk, OnOk, OnErr};
-ghost use Rattle.ex_base.specs.Bytes.{part, repl};
-ghost use Rattle.disk_model.specs.Outside.{DiskOnly, HasNoFaults, Rose};
-ghost use Rattle.lent_host.specs.Asked.{replayed};
-ghost use Rattle.file_host.specs.Untold.{untold, untold_world};
+//! The host. What stands outside of it is the file of which the image is lent, as the listed calls leave it, at each of their fronts.
+ghost use Rattle.std.specs.Prelude.{◌≡◌, ◌≤◌, ◌+◌, ◌++◌, [], ◌∷◌, false, length, IsTrue, if◌then◌else◌};
+ghost use Rattle.ex_base.specs.Bytes.{IsBytes, part, repl};
+ghost use Rattle.lent_host.specs.Lent.{IsLent, lent_world, outside_of, state_after};
+ghost use Rattle.lent_host.specs.declared.host.Asked.TheVariants.{Write};
 
+use crate::file_bytes::FileBytes;
 use disk_model::{Disk, Failed, Host, Sink, Source, World};
 use std::alloc::Global;
 
@@ -17,73 +17,51 @@ pub enum Asked {
     Sync,
 }
 
-/// An image that is lent for one step, and the calls that are asked for on the file.
+/// An image that is lent for one step, and the calls that are asked for on the file. The image is what those make of the file.
+///
+/// It has no source and no sink, so that each take and each put fails, and it counts no faults: each count stands at its top.
 #[derive(Drop)]
 pub struct LentHost<'a> {
     alloc: Global,
-    image: &'a mut [u8],
-    asked: &'a mut Vec<Asked>,
-    faults: u64,
+    /// What the file held before the calls that are listed.
+    pub file: &'a FileBytes,
+    pub image: &'a mut [u8],
+    pub asked: &'a mut Vec<Asked>,
+    pub ghost lent: { (state_after file.now.bytes asked.now.items).disk ≡ image.now },
+    pub ghost whole: { length image.now ≡ length file.now.bytes },
+    pub ghost of_bytes: { IsBytes image.now },
 }
 
 impl<'a> LentHost<'a> {
-    /// A host over this image, with no fault so far.
-    pub fn over(alloc: Global, image: &'a mut [u8], asked: &'a mut Vec<Asked>) -> LentHost<'a>
-        ensures size { (⟦<LentHost<'a> as World>⟧.outside result).size ≡ length image.old }
-        ensures faults { HasNoFaults (⟦<LentHost<'a> as World>⟧.outside result) }
+    /// A host over the image that the listed calls make of a file.
+    pub fn over(
+        alloc: Global,
+        file: &'a FileBytes,
+        image: &'a mut [u8],
+        asked: &'a mut Vec<Asked>,
+    ) -> LentHost<'a>
+        requires { IsLent file.now.bytes asked.old.items image.old }
+        ensures file { result.file.now.bytes ≡ file.now.bytes }
+        ensures image { result.image.ghost_name ≡ image.entry.ghost_name }
+        ensures asked { result.asked.ghost_name ≡ asked.entry.ghost_name }
+        ensures image_now { result.image.now ≡ image.old }
+        ensures asked_now { result.asked.now.items ≡ asked.old.items }
     {
         LentHost {
             alloc,
+            file,
             image,
             asked,
-            faults: 0,
-        }
-    }
-
-    // Writes over the image, and lists that; or finds no memory for it and changes nothing. So the listed calls make of the bytes that were lent first what
-    // the image is.
-    fn write_listed(&mut self, at: usize, bytes: &[u8]) -> Result<(), Failed>
-        requires { at + length bytes.now ≤ length self.old.image.now }
-        ensures rises { self.old.faults ≤ self.new.faults }
-        ensures failed { OnErr result (Rose self.old.faults self.new.faults) }
-        ensures size { length self.new.image.now ≡ length self.old.image.now }
-        ensures replays { (start : List ℕ)
-            → replayed start self.old.asked.now.items ≡ self.old.image.now
-            → replayed start self.new.asked.now.items ≡ self.new.image.now }
-        ensures image { self.new.image.ghost_name ≡ self.old.image.ghost_name }
-        ensures asked { self.new.asked.ghost_name ≡ self.old.asked.ghost_name }
-    {
-        let Ok(copy) = bytes.to_vec(self.alloc) else {
-            return self.fault();
-        };
-        if self.asked.push(Asked::Write { at, bytes: copy }).is_err() {
-            return self.fault();
-        }
-        write_over(self.image, at, bytes);
-        Ok(())
-    }
-
-    fn fault(&mut self) -> Result<(), Failed>
-        ensures rises { self.old.faults ≤ self.new.faults }
-        ensures failed { OnErr result (Rose self.old.faults self.new.faults) }
-        ensures same { OnOk result (self.new.faults ≡ self.old.faults) }
-        ensures image { self.new.image ≡ self.old.image }
-        ensures asked { self.new.asked ≡ self.old.asked }
-    {
-        match self.faults.checked_add(1) {
-            Some(next) => {
-                self.faults = next;
-                Err(Failed)
-            }
-            None => Ok(()),
         }
     }
 }
 
 impl<'a> World for LentHost<'a> {
-    ghost outside = { λ s. untold (length s.image.now) s.faults 0 0 };
+    ghost outside = { λ s. outside_of s.file.now.bytes s.asked.now.items s.image.ghost_name
+        s.asked.ghost_name };
 
-    ghost is_world = { λ s. untold_world (length s.image.now) s.faults 0 0 };
+    ghost is_world = { λ s. lent_world s.file.now.bytes s.asked.now.items s.image.now
+        s.image.ghost_name s.asked.ghost_name s.lent s.whole s.of_bytes };
 }
 
 impl<'a> Disk for LentHost<'a> {
@@ -92,36 +70,81 @@ impl<'a> Disk for LentHost<'a> {
     }
 
     fn read(&mut self, at: u64, out: &mut [u8]) -> Result<(), Failed> {
-        let at = at as usize;
-        out.copy_from_slice(&self.image[at..at + out.len()]);
+        read_from(self.image, at as usize, out);
         Ok(())
     }
 
     fn write(&mut self, at: u64, bytes: &[u8]) -> Result<(), Failed> {
-        self.write_listed(at as usize, bytes)
+        if list_write(self.image, self.asked, self.alloc, at as usize, bytes) {
+            Ok(())
+        } else {
+            Err(Failed)
+        }
     }
 
     fn sync(&mut self) -> Result<(), Failed> {
-        if self.asked.push(Asked::Sync).is_err() {
-            return self.fault();
+        if list(self.asked, Asked::Sync) {
+            Ok(())
+        } else {
+            Err(Failed)
         }
-        Ok(())
     }
 }
 
 impl<'a> Source for LentHost<'a> {
     fn take(&mut self, _out: &mut [u8]) -> Result<usize, Failed> {
-        Ok(0)
+        Err(Failed)
     }
 }
 
 impl<'a> Sink for LentHost<'a> {
-    fn put(&mut self, bytes: &[u8]) -> Result<usize, Failed> {
-        Ok(bytes.len())
+    fn put(&mut self, _bytes: &[u8]) -> Result<usize, Failed> {
+        Err(Failed)
     }
 }
 
 impl<'a> Host for LentHost<'a> {}
+
+// Lists a call, and says whether there was memory for it.
+fn list(asked: &mut Vec<Asked>, call: Asked) -> bool
+    ensures { asked.new.items ≡ (if result then asked.old.items ++ call ∷ [] else asked.old.items) }
+{
+    asked.push(call).is_ok()
+}
+
+// Writes over the image, and lists that; or finds no memory for it and changes nothing.
+fn list_write(
+    image: &mut [u8],
+    asked: &mut Vec<Asked>,
+    alloc: Global,
+    at: usize,
+    bytes: &[u8],
+) -> bool
+    requires { at + length bytes.now ≤ length image.old }
+    ensures done { IsTrue result → (copy : _) × (copy.items ≡ bytes.now)
+        × (asked.new.items ≡ asked.old.items ++ Write at copy ∷ [])
+        × (image.new ≡ repl image.old at bytes.now) }
+    ensures asked { result ≡ false → asked.new.items ≡ asked.old.items }
+    ensures image { result ≡ false → image.new ≡ image.old }
+{
+    let Ok(copy) = bytes.to_vec(alloc) else {
+        return false;
+    };
+    if !list(asked, Asked::Write { at, bytes: copy }) {
+        return false;
+    }
+    write_over(image, at, bytes);
+    true
+}
+
+// Fills `out` with the bytes of the image from a place on.
+fn read_from(image: &mut [u8], at: usize, out: &mut [u8])
+    requires { at + length out.old ≤ length image.old }
+    ensures bytes { out.new ≡ part image.old at (length out.old) }
+    ensures image { image.new ≡ image.old }
+{
+    out.copy_from_slice(&image[at..at + out.len()]);
+}
 
 // Puts bytes over those of the image from a place on.
 fn write_over(image: &mut [u8], at: usize, bytes: &[u8])

@@ -1,2 +1,5 @@
 mod Answering
 mod Formed
+pub mod Renamed
+pub mod Lending
+mod Calling

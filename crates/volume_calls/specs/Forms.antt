@@ -1,7 +1,9 @@
 -- What a line could ask for.
-use Rattle.std.specs.Prelude.{ℕ, ◌^◌, Bool, true, false, ◌&&◌, nat_le, nat_lt, Option, Some, None, List, length}
+use Rattle.std.specs.Prelude.{ℕ, ◌^◌, Bool, true, false, ◌&&◌, nat_le, nat_lt, if◌then◌else◌, Option, Some, None, List, length}
 use Rattle.table_model.specs.Requests.{Data, ByWord, ByBytes, Reference, Bound, Numbered, Request, frames_most, is_position}
 use Rattle.table_model.specs.Requests as request
+use Rattle.table_model.specs.declared.reply.Refusal.{Refusal}
+use Rattle.table_model.specs.declared.reply.Refusal.TheVariants as refusal
 use Rattle.table_model.specs.Words.{is_name, data_most}
 
 -- the numbers of an identifier, or a bound name as a line spells it
@@ -45,3 +47,21 @@ is_formed (request.Scan x name group) = is_exact x && is_name name && is_name_if
 is_formed (request.Next name len) = is_name name && is_count len
 is_formed (request.Close name) = is_name name
 is_formed _ = true
+
+-- More bytes are given than one call may.
+abbrev pub is_long : Data → Bool
+is_long (ByWord word) = false
+is_long (ByBytes bytes) = nat_lt data_most (length bytes)
+
+-- More bytes are given or asked for than one call may.
+abbrev pub is_over : Request → Bool
+is_over (request.Read x pos len) = nat_lt data_most len
+is_over (request.Next name len) = nat_lt data_most len
+is_over (request.Append x given) = is_long given
+is_over (request.Insert x pos given) = is_long given
+is_over (request.Replace x pos given) = is_long given
+is_over _ = false
+
+-- why a request that no line could make is refused
+abbrev pub unformed : Request → Refusal
+unformed r = if is_over r then refusal.DataLimit else refusal.Syntax

@@ -31,3 +31,9 @@ abbrev pub MayLeave : {S : Type 0} → Meaning S → Machine → Reading → Lis
 MayLeave M m (Asks r) d = StandsDuring M m r d
 MayLeave M m Silent d = M.StandsFor d m.committed
 MayLeave M m (Fails why) d = M.StandsFor d m.committed
+
+-- A line that says this was done, from the view, though no text was left of it. One that says nothing takes no memory.
+abbrev pub WasDone : {S : Type 0} → Meaning S → View S → Reading → S → Outside → Type 0
+WasDone M before Silent session w = ⊥
+WasDone M before (Asks r) session w = (told : Reply) × Stepped M before r told session w
+WasDone M before (Fails refused) session w = (session ≡ before.session) × ShowsNow M w before

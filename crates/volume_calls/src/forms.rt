@@ -2,10 +2,10 @@
 ghost use Rattle.std.specs.Prelude.{◌≡◌, option_map};
 ghost use Rattle.table_model.specs.Requests.{given_of, is_position, reference_of, request_of};
 ghost use Rattle.table_model.specs.Words.{is_name};
-ghost use Rattle.volume_calls.specs.Forms.{is_count, is_exact, is_formed, is_name_if, is_plain};
+ghost use Rattle.volume_calls.specs.Forms.{is_count, is_exact, is_formed, is_long, is_name_if, is_over, is_plain, unformed};
 
 use script_lang::name;
-use table_model::{Command, DATA_MOST, FRAMES_MOST, Given, Subject};
+use table_model::{Command, DATA_MOST, FRAMES_MOST, Given, Refusal, Subject};
 
 fn is_name(word: &[u8]) -> bool
     ensures { result ≡ is_name word.now }
@@ -100,5 +100,40 @@ pub(crate) fn is_formed(command: &Command<'_>) -> bool
         Command::Log => true,
         Command::Files => true,
         Command::Space => true,
+    }
+}
+
+// Whether more bytes are given than one call may.
+fn is_long(given: Given<'_>) -> bool
+    ensures { result ≡ is_long (given_of given.entry) }
+{
+    match given {
+        Given::Bytes(bytes) => bytes.len() > DATA_MOST as usize,
+        Given::Word(_) => false,
+    }
+}
+
+// Whether more bytes are given or asked for than one call may.
+fn is_over(command: &Command<'_>) -> bool
+    ensures { result ≡ is_over (request_of command.now) }
+{
+    match command {
+        Command::Read { len, .. } => *len > DATA_MOST,
+        Command::Next { len, .. } => *len > DATA_MOST,
+        Command::Append { given, .. } => is_long(*given),
+        Command::Insert { given, .. } => is_long(*given),
+        Command::Replace { given, .. } => is_long(*given),
+        _ => false,
+    }
+}
+
+/// Why a command that no line could ask for is refused.
+pub(crate) fn unformed(command: &Command<'_>) -> Refusal
+    ensures { result ≡ unformed (request_of command.now) }
+{
+    if is_over(command) {
+        Refusal::DataLimit
+    } else {
+        Refusal::Syntax
     }
 }

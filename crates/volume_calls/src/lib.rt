@@ -1,9 +1,11 @@
-//! The calls of the library on an open volume: a step on a line, or on a command that a caller made. A session of any kind does them, over any host.
+//! The calls of the library on a volume that is open over an image which its caller lends: a step on a line, or on a command that a caller made. A session
+//! of any kind does them.
 #![tactic(auto)]
 
-mod calls;
 mod forms;
+mod lent;
 mod lines;
+mod volume;
 
-pub use calls::call;
-pub use lines::step_line;
+pub use lines::{Unanswered, step_line};
+pub use volume::{LentVolume, NotDone};

@@ -1,13 +1,18 @@
 //! Edits of the bytes of an object, for C. At most 16,777,216 bytes are given at once.
-ghost use Rattle.exsm_c.specs.Owned.{IsOpen};
+ghost use Rattle.std.specs.Prelude.{◌≡◌, ◌≢◌, ◌⊎◌, IfOk, replicate};
+ghost use Rattle.exsm_c.specs.Answers.{Answers, Unstepped};
+ghost use Rattle.exsm_c.specs.Owned.{IsLentBy};
+ghost use Rattle.exsm_c.specs.Told.{numbered, size_in, wanted};
+ghost use Rattle.table_model.specs.Requests.{Append, ByBytes, Delete, Insert, Replace};
 
-use crate::codes::OK;
-use crate::handle::{Handle, give, take};
-use crate::open::NotDone;
-use crate::passed::{Identifier, wanted};
+use crate::handle::Handle;
+use crate::passed::Identifier;
+use crate::steps::{refuse, step};
+use crate::told::{tell_size, wanted};
 use session_views::Stop;
-use std::alloc::Global;
-use table_model::{Command, Given, Reply};
+use std::alloc::{AllocError, Global};
+use table_model::{Command, Given};
+use volume_calls::NotDone;
 
 /// Puts bytes at the end, and tells the new size, as each edit does.
 #[unsafe(no_mangle)]
@@ -19,26 +24,22 @@ pub extern "C" fn exsm_core_append(
     bytes: &[u8],
     size: &mut u64,
 ) -> u32
-    requires { IsOpen handle.old.value }
-    ensures kept { IsOpen handle.new.value }
+    requires { IsLentBy handle.old.value image.old }
+    ensures answers { Answers handle.old.value handle.new.value image.old image.new
+        (Append (numbered x.now) (ByBytes bytes.now)) result
+        (λ told. size.new ≡ size_in told) }
+    ensures same { result ≢ 0 → size.new ≡ size.old }
 {
-    let mut open = take(alloc, handle);
-    let code = match open.call(
+    let told = step(
         alloc,
+        handle,
         image,
         &Command::Append {
             x: x.subject(),
             given: Given::Bytes(bytes),
         },
-    ) {
-        Ok(Reply::Append { size: told }) => {
-            *size = told;
-            OK
-        },
-        told => open.refuse(told),
-    };
-    give(handle, open);
-    code
+    );
+    tell_size(told, size)
 }
 
 /// Puts bytes in before the byte at `pos`.
@@ -52,27 +53,23 @@ pub extern "C" fn exsm_core_insert(
     bytes: &[u8],
     size: &mut u64,
 ) -> u32
-    requires { IsOpen handle.old.value }
-    ensures kept { IsOpen handle.new.value }
+    requires { IsLentBy handle.old.value image.old }
+    ensures answers { Answers handle.old.value handle.new.value image.old image.new
+        (Insert (numbered x.now) pos (ByBytes bytes.now)) result
+        (λ told. size.new ≡ size_in told) }
+    ensures same { result ≢ 0 → size.new ≡ size.old }
 {
-    let mut open = take(alloc, handle);
-    let code = match open.call(
+    let told = step(
         alloc,
+        handle,
         image,
         &Command::Insert {
             x: x.subject(),
             pos,
             given: Given::Bytes(bytes),
         },
-    ) {
-        Ok(Reply::Insert { size: told }) => {
-            *size = told;
-            OK
-        },
-        told => open.refuse(told),
-    };
-    give(handle, open);
-    code
+    );
+    tell_size(told, size)
 }
 
 /// Puts bytes over those from `pos` on.
@@ -86,63 +83,23 @@ pub extern "C" fn exsm_core_replace(
     bytes: &[u8],
     size: &mut u64,
 ) -> u32
-    requires { IsOpen handle.old.value }
-    ensures kept { IsOpen handle.new.value }
+    requires { IsLentBy handle.old.value image.old }
+    ensures answers { Answers handle.old.value handle.new.value image.old image.new
+        (Replace (numbered x.now) pos (ByBytes bytes.now)) result
+        (λ told. size.new ≡ size_in told) }
+    ensures same { result ≢ 0 → size.new ≡ size.old }
 {
-    let mut open = take(alloc, handle);
-    let code = match open.call(
+    let told = step(
         alloc,
+        handle,
         image,
         &Command::Replace {
             x: x.subject(),
             pos,
             given: Given::Bytes(bytes),
         },
-    ) {
-        Ok(Reply::Replace { size: told }) => {
-            *size = told;
-            OK
-        },
-        told => open.refuse(told),
-    };
-    give(handle, open);
-    code
-}
-
-/// Puts the same byte at the end so many times.
-#[unsafe(no_mangle)]
-pub extern "C" fn exsm_core_fill(
-    alloc: Global,
-    handle: &mut Handle,
-    image: &mut [u8],
-    x: &Identifier,
-    count: usize,
-    byte: u8,
-    size: &mut u64,
-) -> u32
-    requires { IsOpen handle.old.value }
-    ensures kept { IsOpen handle.new.value }
-{
-    let mut open = take(alloc, handle);
-    let code = match vec![in alloc; byte; wanted(count) as usize] {
-        Ok(bytes) => match open.call(
-            alloc,
-            image,
-            &Command::Append {
-                x: x.subject(),
-                given: Given::Bytes(&bytes),
-            },
-        ) {
-            Ok(Reply::Append { size: told }) => {
-                *size = told;
-                OK
-            }
-            told => open.refuse(told),
-        },
-        Err(_) => open.refuse(Err(NotDone::Stopped(Stop::Memory))),
-    };
-    give(handle, open);
-    code
+    );
+    tell_size(told, size)
 }
 
 /// Removes `len` bytes from `pos` on.
@@ -156,25 +113,62 @@ pub extern "C" fn exsm_core_delete(
     len: u64,
     size: &mut u64,
 ) -> u32
-    requires { IsOpen handle.old.value }
-    ensures kept { IsOpen handle.new.value }
+    requires { IsLentBy handle.old.value image.old }
+    ensures answers { Answers handle.old.value handle.new.value image.old image.new
+        (Delete (numbered x.now) pos len) result
+        (λ told. size.new ≡ size_in told) }
+    ensures same { result ≢ 0 → size.new ≡ size.old }
 {
-    let mut open = take(alloc, handle);
-    let code = match open.call(
+    let told = step(
         alloc,
+        handle,
         image,
         &Command::Delete {
             x: x.subject(),
             pos,
             len,
         },
-    ) {
-        Ok(Reply::Delete { size: told }) => {
-            *size = told;
-            OK
-        },
-        told => open.refuse(told),
+    );
+    tell_size(told, size)
+}
+
+// The same byte so many times.
+fn repeated(alloc: Global, byte: u8, count: usize) -> Result<Vec<u8>, AllocError>
+    ensures { IfOk result (λ bytes. bytes.items ≡ replicate count byte) }
+{
+    vec![in alloc; byte; count]
+}
+
+/// Puts the same byte at the end so many times. Where there is no memory for the bytes, nothing is done.
+#[unsafe(no_mangle)]
+pub extern "C" fn exsm_core_fill(
+    alloc: Global,
+    handle: &mut Handle,
+    image: &mut [u8],
+    x: &Identifier,
+    count: usize,
+    byte: u8,
+    size: &mut u64,
+) -> u32
+    requires { IsLentBy handle.old.value image.old }
+    ensures answers { ((result ≡ 100) × Unstepped handle.old.value handle.new.value
+        × (image.new ≡ image.old))
+        ⊎ Answers handle.old.value handle.new.value image.old image.new
+        (Append (numbered x.now) (ByBytes (replicate (wanted count) byte))) result
+        (λ told. size.new ≡ size_in told) }
+    ensures same { result ≢ 0 → size.new ≡ size.old }
+{
+    let Ok(bytes) = repeated(alloc, byte, wanted(count) as usize) else {
+        return refuse(alloc, handle, NotDone::Stopped(Stop::Memory));
     };
-    give(handle, open);
-    code
+    let told = step(
+        alloc,
+        handle,
+        image,
+        &Command::Append {
+            x: x.subject(),
+            given: Given::Bytes(&bytes),
+        },
+    );
+    tell_size(told, size)
 }

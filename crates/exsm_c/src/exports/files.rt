@@ -1,10 +1,15 @@
 //! Files, for C.
-ghost use Rattle.exsm_c.specs.Owned.{IsOpen};
+ghost use Rattle.std.specs.Prelude.{◌≡◌, ◌≢◌, ⊤};
+ghost use Rattle.exsm_c.specs.Answers.{Answers, HasNames, HasOids};
+ghost use Rattle.exsm_c.specs.Owned.{IsLentBy};
+ghost use Rattle.exsm_c.specs.Told.{names_in, oids_in};
+ghost use Rattle.table_model.specs.Requests.{File, Files, ListFile, Unfile};
 
-use crate::codes::OK;
-use crate::handle::{Handle, give, take};
+use crate::handle::Handle;
+use crate::steps::{keep_names, keep_oids, step};
+use crate::told::tell_done;
 use std::alloc::Global;
-use table_model::{Command, Reply};
+use table_model::Command;
 
 /// Makes an empty file.
 #[unsafe(no_mangle)]
@@ -14,16 +19,13 @@ pub extern "C" fn exsm_core_file(
     image: &mut [u8],
     name: &[u8],
 ) -> u32
-    requires { IsOpen handle.old.value }
-    ensures kept { IsOpen handle.new.value }
+    requires { IsLentBy handle.old.value image.old }
+    ensures answers { Answers handle.old.value handle.new.value image.old image.new
+        (File name.now) result
+        (λ told. ⊤) }
 {
-    let mut open = take(alloc, handle);
-    let code = match open.call(alloc, image, &Command::File { name }) {
-        Ok(Reply::File { .. }) => OK,
-        told => open.refuse(told),
-    };
-    give(handle, open);
-    code
+    let told = step(alloc, handle, image, &Command::File { name });
+    tell_done(told)
 }
 
 /// Removes a file without objects.
@@ -34,16 +36,13 @@ pub extern "C" fn exsm_core_unfile(
     image: &mut [u8],
     name: &[u8],
 ) -> u32
-    requires { IsOpen handle.old.value }
-    ensures kept { IsOpen handle.new.value }
+    requires { IsLentBy handle.old.value image.old }
+    ensures answers { Answers handle.old.value handle.new.value image.old image.new
+        (Unfile name.now) result
+        (λ told. ⊤) }
 {
-    let mut open = take(alloc, handle);
-    let code = match open.call(alloc, image, &Command::Unfile { name }) {
-        Ok(Reply::Unfile { .. }) => OK,
-        told => open.refuse(told),
-    };
-    give(handle, open);
-    code
+    let told = step(alloc, handle, image, &Command::Unfile { name });
+    tell_done(told)
 }
 
 /// Lists the names of the files, in byte order. They are the handle's until the next list of names.
@@ -54,20 +53,14 @@ pub extern "C" fn exsm_core_files(
     image: &mut [u8],
     count: &mut usize,
 ) -> u32
-    requires { IsOpen handle.old.value }
-    ensures kept { IsOpen handle.new.value }
+    requires { IsLentBy handle.old.value image.old }
+    ensures answers { Answers handle.old.value handle.new.value image.old image.new
+        (Files) result
+        (λ told. HasNames handle.new.value (names_in told) count.new) }
+    ensures same { result ≢ 0 → count.new ≡ count.old }
 {
-    let mut open = take(alloc, handle);
-    let code = match open.call(alloc, image, &Command::Files) {
-        Ok(Reply::Files { names }) => {
-            *count = names.len();
-            open.names = names;
-            OK
-        },
-        told => open.refuse(told),
-    };
-    give(handle, open);
-    code
+    let told = step(alloc, handle, image, &Command::Files);
+    keep_names(alloc, handle, told, count)
 }
 
 /// Lists the objects of a file. Their identifiers are the handle's until the next list of identifiers.
@@ -79,18 +72,12 @@ pub extern "C" fn exsm_core_list(
     name: &[u8],
     count: &mut usize,
 ) -> u32
-    requires { IsOpen handle.old.value }
-    ensures kept { IsOpen handle.new.value }
+    requires { IsLentBy handle.old.value image.old }
+    ensures answers { Answers handle.old.value handle.new.value image.old image.new
+        (ListFile name.now) result
+        (λ told. HasOids handle.new.value (oids_in told) count.new) }
+    ensures same { result ≢ 0 → count.new ≡ count.old }
 {
-    let mut open = take(alloc, handle);
-    let code = match open.call(alloc, image, &Command::List { name }) {
-        Ok(Reply::List { oids }) => {
-            *count = oids.len();
-            open.oids = oids;
-            OK
-        },
-        told => open.refuse(told),
-    };
-    give(handle, open);
-    code
+    let told = step(alloc, handle, image, &Command::List { name });
+    keep_oids(alloc, handle, told, count)
 }

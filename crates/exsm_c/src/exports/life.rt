@@ -1,39 +1,41 @@
 //! A volume is opened, made and closed, and steps on lines, for C.
-ghost use Rattle.std.specs.Prelude.{◌≡◌, ◌≢◌, None};
-ghost use Rattle.exsm_c.specs.Owned.{IsOpen};
+ghost use Rattle.std.specs.Prelude.{◌≡◌, ◌≢◌, ◌⊎◌, None, Some, length};
+ghost use Rattle.table_model.specs.declared.table.Table.{Table};
+ghost use Rattle.session_core.specs.Meant.{meant};
+ghost use Rattle.session_views.specs.declared.part.Part.{Part};
+ghost use Rattle.exsm_c.specs.Codes.{code_of_room, number_of_part};
+ghost use Rattle.exsm_c.specs.declared.open.Open.{Open};
+ghost use Rattle.exsm_c.specs.Answers.{AnswersLine, HasText, HasTextOf, HasVolume, IsOpenedOn};
+ghost use Rattle.exsm_c.specs.Owned.{IsLentBy, IsOpen};
+ghost use Rattle.lent_host.specs.Lent.{IsLent};
+ghost use Rattle.volume_calls.specs.Lines.{line_of};
 
-use crate::codes::{BAD_VOLUME, IS_VOLUME, NO_MEMORY, OK, ROOM, TOO_SMALL, code_of_fault};
+use crate::codes::{BAD_VOLUME, NO_MEMORY, OK, code_of_status};
 use crate::handle::{Handle, give, take};
-use crate::lent::make_over;
+use crate::making::make;
 use crate::open::Open;
-use crate::passed::{Sizes, Why, number_of_part};
+use crate::passed::{Sizes, Why};
+use crate::steps::step_line;
+use crate::told::{tell_fault, tell_text};
 use ex_base::Geometry;
-use exsm_run::Status;
-use lent_host::Asked;
-use session_views::OpenFault;
+use exsm_run::VolumeSession;
+use lent_host::{Asked, FileBytes};
 use std::alloc::Global;
-use table_model::Reply;
+use table_model::{Names, OidList};
+use volume_calls::LentVolume;
 
-// Opens the volume behind the calls that were listed already, and gives it to the handle.
-fn open_behind(
-    alloc: Global,
-    handle: &mut Handle,
-    image: &mut [u8],
-    asked: Vec<Asked>,
-    part: &mut u8,
-) -> u32
+// Gives a handle the volume that was opened.
+fn keep_volume(alloc: Global, handle: &mut Handle, volume: LentVolume<VolumeSession>) -> u32
     requires { handle.old.value ≡ None }
-    ensures opened { result ≡ 0 → IsOpen handle.new.value }
-    ensures refused { result ≢ 0 → handle.new.value ≡ None }
+    ensures codes { (result ≡ 0) ⊎ (result ≡ 100) }
+    ensures kept { result ≡ 0 → HasVolume handle.new.value volume }
+    ensures none { result ≢ 0 → handle.new.value ≡ None }
 {
-    let open = match Open::open(alloc, image, asked) {
-        Ok(open) => open,
-        Err(fault) => {
-            if let OpenFault::BadVolume { part: bad } = fault {
-                *part = number_of_part(bad);
-            }
-            return code_of_fault(fault);
-        }
+    let open = Open {
+        volume,
+        names: Names::make(alloc),
+        oids: OidList::make(alloc),
+        why: None,
     };
     match Box::new(alloc, open) {
         Ok(open) => {
@@ -41,6 +43,31 @@ fn open_behind(
             OK
         }
         Err(_) => NO_MEMORY,
+    }
+}
+
+// Opens the volume on the image that the listed calls make of a file, and gives it to the handle.
+fn open_behind(
+    alloc: Global,
+    handle: &mut Handle,
+    file: FileBytes,
+    image: &mut [u8],
+    asked: Vec<Asked>,
+    part: &mut u8,
+) -> u32
+    requires none { handle.old.value ≡ None }
+    requires lent { IsLent file.bytes asked.items image.old }
+    ensures opened { result ≡ 0 → (table : Table) × meant.StandsFor image.old table
+        × IsOpenedOn handle.new.value image.new table }
+    ensures refused { result ≢ 0 → handle.new.value ≡ None }
+    ensures bad { result ≡ 104 → (first : Part) × meant.FirstBad image.old first
+        × (part.new ≡ number_of_part first) }
+    ensures good { result ≢ 104 → part.new ≡ part.old }
+    ensures memory { result ≢ 0 → result ≢ 104 → result ≡ 100 }
+{
+    match LentVolume::<VolumeSession>::open(alloc, file, image, asked) {
+        Ok(volume) => keep_volume(alloc, handle, volume),
+        Err(fault) => tell_fault(fault, part),
     }
 }
 
@@ -53,10 +80,16 @@ pub extern "C" fn exsm_core_open(
     part: &mut u8,
 ) -> u32
     requires { handle.old.value ≡ None }
-    ensures opened { result ≡ 0 → IsOpen handle.new.value }
+    ensures opened { result ≡ 0 → (table : Table) × meant.StandsFor image.old table
+        × IsOpenedOn handle.new.value image.new table }
     ensures refused { result ≢ 0 → handle.new.value ≡ None }
+    ensures bad { result ≡ 104 → (first : Part) × meant.FirstBad image.old first
+        × (part.new ≡ number_of_part first) }
+    ensures good { result ≢ 104 → part.new ≡ part.old }
+    ensures memory { result ≢ 0 → result ≢ 104 → result ≡ 100 }
 {
-    open_behind(alloc, handle, image, Vec::new(alloc), part)
+    let file = FileBytes::of(image);
+    open_behind(alloc, handle, file, image, Vec::new(alloc), part)
 }
 
 /// Makes an empty volume of these sizes on an image that holds none, and opens it. The calls that make it are listed first.
@@ -68,7 +101,7 @@ pub extern "C" fn exsm_core_make(
     sizes: &Sizes,
 ) -> u32
     requires { handle.old.value ≡ None }
-    ensures opened { result ≡ 0 → IsOpen handle.new.value }
+    ensures opened { result ≡ 0 → (table : Table) × IsOpenedOn handle.new.value image.new table }
     ensures refused { result ≢ 0 → handle.new.value ≡ None }
 {
     let Ok(geometry) = Geometry::make(
@@ -80,15 +113,14 @@ pub extern "C" fn exsm_core_make(
     ) else {
         return BAD_VOLUME;
     };
+    let file = FileBytes::of(image);
     let mut asked = Vec::new(alloc);
-    match make_over(alloc, image, &mut asked, &geometry) {
-        Status::Done => {}
-        Status::AlreadyVolume => return IS_VOLUME,
-        Status::TooSmall { .. } => return TOO_SMALL,
-        _ => return NO_MEMORY,
+    let code = code_of_status(make(alloc, &file, image, &mut asked, &geometry));
+    if code != OK {
+        return code;
     }
     let mut part = 0;
-    open_behind(alloc, handle, image, asked, &mut part)
+    open_behind(alloc, handle, file, image, asked, &mut part)
 }
 
 /// Frees what the handle has. It has none then.
@@ -108,17 +140,10 @@ pub extern "C" fn exsm_core_line(
     image: &mut [u8],
     line: &[u8],
 ) -> u32
-    requires { IsOpen handle.old.value }
-    ensures kept { IsOpen handle.new.value }
+    requires { IsLentBy handle.old.value image.old }
+    ensures answers { AnswersLine handle.old.value handle.new.value image.new (line_of line.now) result }
 {
-    let mut open = take(alloc, handle);
-    let code = match open.step_line(alloc, image, line) {
-        Ok(None) => OK,
-        Ok(Some(why)) => open.refuse(Ok(Reply::No(why))),
-        Err(why) => open.refuse(Err(why)),
-    };
-    give(handle, open);
-    code
+    step_line(alloc, handle, image, line)
 }
 
 /// How many bytes the text of the last line's reply has.
@@ -126,9 +151,10 @@ pub extern "C" fn exsm_core_line(
 pub extern "C" fn exsm_core_text_len(alloc: Global, handle: &mut Handle) -> usize
     requires { IsOpen handle.old.value }
     ensures kept { handle.new.value ≡ handle.old.value }
+    ensures len { HasTextOf handle.old.value result }
 {
     let open = take(alloc, handle);
-    let len = open.text.len();
+    let len = open.volume.text.len();
     give(handle, open);
     len
 }
@@ -138,15 +164,13 @@ pub extern "C" fn exsm_core_text_len(alloc: Global, handle: &mut Handle) -> usiz
 pub extern "C" fn exsm_core_text(alloc: Global, handle: &mut Handle, out: &mut [u8]) -> u32
     requires { IsOpen handle.old.value }
     ensures kept { handle.new.value ≡ handle.old.value }
+    ensures code { (had : Open) → handle.old.value ≡ Some had
+        → result ≡ code_of_room (length had.volume.text.items) (length out.old) }
+    ensures told { result ≡ 0 → HasText handle.old.value out.new }
+    ensures same { result ≢ 0 → out.new ≡ out.old }
 {
     let open = take(alloc, handle);
-    let len = open.text.len();
-    let code = if len <= out.len() {
-        out[..len].copy_from_slice(&open.text);
-        OK
-    } else {
-        ROOM
-    };
+    let code = tell_text(&open.volume.text, out);
     give(handle, open);
     code
 }
@@ -158,6 +182,6 @@ pub extern "C" fn exsm_core_why(alloc: Global, handle: &mut Handle, why: &mut Wh
     ensures kept { handle.new.value ≡ handle.old.value }
 {
     let open = take(alloc, handle);
-    *why = open.why;
+    *why = Why::of(open.why);
     give(handle, open);
 }

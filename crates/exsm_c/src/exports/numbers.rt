@@ -1,11 +1,17 @@
 //! The numbers of a volume, for C.
-ghost use Rattle.exsm_c.specs.Owned.{IsOpen};
+ghost use Rattle.std.specs.Prelude.{◌≡◌, ◌≢◌};
+ghost use Rattle.exsm_c.specs.Answers.{Answers, AnswersCheck};
+ghost use Rattle.exsm_c.specs.Owned.{IsLentBy};
+ghost use Rattle.exsm_c.specs.Told.{records_in, units_in};
+ghost use Rattle.table_model.specs.Requests.{Log, Space};
 
-use crate::codes::OK;
 use crate::handle::{Handle, give, take};
+use crate::making::sum_of;
 use crate::passed::{Counts, Units};
+use crate::steps::step;
+use crate::told::{tell_counts, tell_records, tell_units, why_of};
 use std::alloc::Global;
-use table_model::{Command, Reply};
+use table_model::Command;
 
 /// Tells how many records of the log count.
 #[unsafe(no_mangle)]
@@ -15,19 +21,14 @@ pub extern "C" fn exsm_core_log(
     image: &mut [u8],
     records: &mut u32,
 ) -> u32
-    requires { IsOpen handle.old.value }
-    ensures kept { IsOpen handle.new.value }
+    requires { IsLentBy handle.old.value image.old }
+    ensures answers { Answers handle.old.value handle.new.value image.old image.new
+        (Log) result
+        (λ told. records.new ≡ records_in told) }
+    ensures same { result ≢ 0 → records.new ≡ records.old }
 {
-    let mut open = take(alloc, handle);
-    let code = match open.call(alloc, image, &Command::Log) {
-        Ok(Reply::Log { records: told }) => {
-            *records = told;
-            OK
-        },
-        told => open.refuse(told),
-    };
-    give(handle, open);
-    code
+    let told = step(alloc, handle, image, &Command::Log);
+    tell_records(told, records)
 }
 
 /// Tells the units in use, and all that there are.
@@ -38,31 +39,14 @@ pub extern "C" fn exsm_core_space(
     image: &mut [u8],
     space: &mut Units,
 ) -> u32
-    requires { IsOpen handle.old.value }
-    ensures kept { IsOpen handle.new.value }
+    requires { IsLentBy handle.old.value image.old }
+    ensures answers { Answers handle.old.value handle.new.value image.old image.new
+        (Space) result
+        (λ told. space.new ≡ units_in told) }
+    ensures same { result ≢ 0 → space.new ≡ space.old }
 {
-    let mut open = take(alloc, handle);
-    let code = match open.call(alloc, image, &Command::Space) {
-        Ok(
-            Reply::Space {
-                pages,
-                of_pages,
-                segs,
-                of_segs,
-            },
-        ) => {
-            *space = Units {
-                pages,
-                of_pages,
-                segs,
-                of_segs,
-            };
-            OK
-        },
-        told => open.refuse(told),
-    };
-    give(handle, open);
-    code
+    let told = step(alloc, handle, image, &Command::Space);
+    tell_units(told, space)
 }
 
 /// Sums up what the volume holds, which an opening tested whole.
@@ -73,17 +57,13 @@ pub extern "C" fn exsm_core_check(
     image: &mut [u8],
     counts: &mut Counts,
 ) -> u32
-    requires { IsOpen handle.old.value }
-    ensures kept { IsOpen handle.new.value }
+    requires { IsLentBy handle.old.value image.old }
+    ensures answers { AnswersCheck handle.old.value handle.new.value image.new result counts.new }
+    ensures same { result ≢ 0 → counts.new ≡ counts.old }
 {
     let mut open = take(alloc, handle);
-    let code = match open.summary(alloc, image) {
-        Ok(told) => {
-            *counts = Counts::of(&told);
-            OK
-        }
-        Err(why) => open.refuse(Err(why)),
-    };
+    let told = sum_of(&mut open.volume, alloc, image);
+    open.why = why_of(&told, open.why);
     give(handle, open);
-    code
+    tell_counts(told, counts)
 }

@@ -1,11 +1,16 @@
 //! Scans and groups of buffer frames, for C.
-ghost use Rattle.exsm_c.specs.Owned.{IsOpen};
+ghost use Rattle.std.specs.Prelude.{◌≡◌, ◌≢◌, ⊤, length, min};
+ghost use Rattle.exsm_c.specs.Answers.{Answers};
+ghost use Rattle.exsm_c.specs.Owned.{IsLentBy};
+ghost use Rattle.exsm_c.specs.Told.{BeginsWith, bytes_in, group_name, numbered, size_in, wanted};
+ghost use Rattle.table_model.specs.Requests.{Close, Group, Next, Scan};
 
-use crate::codes::OK;
-use crate::handle::{Handle, give, take};
-use crate::passed::{Identifier, group_of, put_front, wanted};
+use crate::handle::Handle;
+use crate::passed::Identifier;
+use crate::steps::step;
+use crate::told::{group_of, tell_done, tell_next, tell_size, wanted};
 use std::alloc::Global;
-use table_model::{Command, Reply};
+use table_model::Command;
 
 /// Makes a group of 1 to 1,024 buffer frames. `mru`: its most recent frame is given up first.
 #[unsafe(no_mangle)]
@@ -17,16 +22,13 @@ pub extern "C" fn exsm_core_group(
     frames: u32,
     mru: bool,
 ) -> u32
-    requires { IsOpen handle.old.value }
-    ensures kept { IsOpen handle.new.value }
+    requires { IsLentBy handle.old.value image.old }
+    ensures answers { Answers handle.old.value handle.new.value image.old image.new
+        (Group name.now frames mru) result
+        (λ told. ⊤) }
 {
-    let mut open = take(alloc, handle);
-    let code = match open.call(alloc, image, &Command::Group { name, frames, mru }) {
-        Ok(Reply::Group { .. }) => OK,
-        told => open.refuse(told),
-    };
-    give(handle, open);
-    code
+    let told = step(alloc, handle, image, &Command::Group { name, frames, mru });
+    tell_done(told)
 }
 
 /// Opens a scan of a version's bytes as they are now, in a group of frames, or in `main` where its name is empty, and tells how many it will give.
@@ -40,27 +42,23 @@ pub extern "C" fn exsm_core_scan(
     group: &[u8],
     size: &mut u64,
 ) -> u32
-    requires { IsOpen handle.old.value }
-    ensures kept { IsOpen handle.new.value }
+    requires { IsLentBy handle.old.value image.old }
+    ensures answers { Answers handle.old.value handle.new.value image.old image.new
+        (Scan (numbered x.now) name.now (group_name group.now)) result
+        (λ told. size.new ≡ size_in told) }
+    ensures same { result ≢ 0 → size.new ≡ size.old }
 {
-    let mut open = take(alloc, handle);
-    let code = match open.call(
+    let told = step(
         alloc,
+        handle,
         image,
         &Command::Scan {
             x: x.subject(),
             name,
             group: group_of(group),
         },
-    ) {
-        Ok(Reply::Scan { size: told, .. }) => {
-            *size = told;
-            OK
-        },
-        told => open.refuse(told),
-    };
-    give(handle, open);
-    code
+    );
+    tell_size(told, size)
 }
 
 /// Gives the next bytes of a scan, as many as `out` has room for, and tells how many they are: none at the end.
@@ -73,26 +71,24 @@ pub extern "C" fn exsm_core_next(
     out: &mut [u8],
     count: &mut usize,
 ) -> u32
-    requires { IsOpen handle.old.value }
-    ensures kept { IsOpen handle.new.value }
+    requires { IsLentBy handle.old.value image.old }
+    ensures answers { Answers handle.old.value handle.new.value image.old image.new
+        (Next name.now (wanted (length out.old))) result
+        (λ told. BeginsWith out.new (bytes_in told)
+        × (count.new ≡ min (length out.old) (length (bytes_in told)))) }
+    ensures same { result ≢ 0 → out.new ≡ out.old }
+    ensures same_count { result ≢ 0 → count.new ≡ count.old }
 {
-    let mut open = take(alloc, handle);
-    let code = match open.call(
+    let told = step(
         alloc,
+        handle,
         image,
         &Command::Next {
             name,
             len: wanted(out.len()),
         },
-    ) {
-        Ok(Reply::Next { bytes }) => {
-            *count = put_front(out, bytes.as_slice());
-            OK
-        },
-        told => open.refuse(told),
-    };
-    give(handle, open);
-    code
+    );
+    tell_next(told, out, count)
 }
 
 /// Closes a scan.
@@ -103,14 +99,11 @@ pub extern "C" fn exsm_core_end(
     image: &mut [u8],
     name: &[u8],
 ) -> u32
-    requires { IsOpen handle.old.value }
-    ensures kept { IsOpen handle.new.value }
+    requires { IsLentBy handle.old.value image.old }
+    ensures answers { Answers handle.old.value handle.new.value image.old image.new
+        (Close name.now) result
+        (λ told. ⊤) }
 {
-    let mut open = take(alloc, handle);
-    let code = match open.call(alloc, image, &Command::Close { name }) {
-        Ok(Reply::Close { .. }) => OK,
-        told => open.refuse(told),
-    };
-    give(handle, open);
-    code
+    let told = step(alloc, handle, image, &Command::Close { name });
+    tell_done(told)
 }

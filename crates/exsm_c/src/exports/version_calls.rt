@@ -1,11 +1,16 @@
 //! Versions of objects, for C.
-ghost use Rattle.exsm_c.specs.Owned.{IsOpen};
+ghost use Rattle.std.specs.Prelude.{◌≡◌, ◌≢◌, ⊤, None};
+ghost use Rattle.exsm_c.specs.Answers.{Answers, HasOids};
+ghost use Rattle.exsm_c.specs.Owned.{IsLentBy};
+ghost use Rattle.exsm_c.specs.Told.{identifier_in, numbered, oids_in};
+ghost use Rattle.table_model.specs.Requests.{Derive, DropVersion, Freeze, Versions};
 
-use crate::codes::OK;
-use crate::handle::{Handle, give, take};
+use crate::handle::Handle;
 use crate::passed::Identifier;
+use crate::steps::{keep_oids, step};
+use crate::told::{tell_done, tell_identifier};
 use std::alloc::Global;
-use table_model::{Command, Reply};
+use table_model::Command;
 
 /// Keeps the bytes of a current version as a frozen one.
 #[unsafe(no_mangle)]
@@ -16,26 +21,22 @@ pub extern "C" fn exsm_core_freeze(
     x: &Identifier,
     made: &mut Identifier,
 ) -> u32
-    requires { IsOpen handle.old.value }
-    ensures kept { IsOpen handle.new.value }
+    requires { IsLentBy handle.old.value image.old }
+    ensures answers { Answers handle.old.value handle.new.value image.old image.new
+        (Freeze (numbered x.now) None) result
+        (λ told. made.new ≡ identifier_in told) }
+    ensures same { result ≢ 0 → made.new ≡ made.old }
 {
-    let mut open = take(alloc, handle);
-    let code = match open.call(
+    let told = step(
         alloc,
+        handle,
         image,
         &Command::Freeze {
             x: x.subject(),
             bind: None,
         },
-    ) {
-        Ok(Reply::Freeze { oid }) => {
-            *made = Identifier::of(oid);
-            OK
-        },
-        told => open.refuse(told),
-    };
-    give(handle, open);
-    code
+    );
+    tell_identifier(told, made)
 }
 
 /// Makes a current version with the bytes of a frozen one, derived from that.
@@ -47,26 +48,22 @@ pub extern "C" fn exsm_core_derive(
     x: &Identifier,
     made: &mut Identifier,
 ) -> u32
-    requires { IsOpen handle.old.value }
-    ensures kept { IsOpen handle.new.value }
+    requires { IsLentBy handle.old.value image.old }
+    ensures answers { Answers handle.old.value handle.new.value image.old image.new
+        (Derive (numbered x.now) None) result
+        (λ told. made.new ≡ identifier_in told) }
+    ensures same { result ≢ 0 → made.new ≡ made.old }
 {
-    let mut open = take(alloc, handle);
-    let code = match open.call(
+    let told = step(
         alloc,
+        handle,
         image,
         &Command::Derive {
             x: x.subject(),
             bind: None,
         },
-    ) {
-        Ok(Reply::Derive { oid }) => {
-            *made = Identifier::of(oid);
-            OK
-        },
-        told => open.refuse(told),
-    };
-    give(handle, open);
-    code
+    );
+    tell_identifier(told, made)
 }
 
 /// Lists the versions of an object: each one before those that are derived from it. Their identifiers are the handle's until the next list of identifiers.
@@ -78,20 +75,14 @@ pub extern "C" fn exsm_core_versions(
     x: &Identifier,
     count: &mut usize,
 ) -> u32
-    requires { IsOpen handle.old.value }
-    ensures kept { IsOpen handle.new.value }
+    requires { IsLentBy handle.old.value image.old }
+    ensures answers { Answers handle.old.value handle.new.value image.old image.new
+        (Versions (numbered x.now)) result
+        (λ told. HasOids handle.new.value (oids_in told) count.new) }
+    ensures same { result ≢ 0 → count.new ≡ count.old }
 {
-    let mut open = take(alloc, handle);
-    let code = match open.call(alloc, image, &Command::Versions { x: x.subject() }) {
-        Ok(Reply::Versions { oids }) => {
-            *count = oids.len();
-            open.oids = oids;
-            OK
-        },
-        told => open.refuse(told),
-    };
-    give(handle, open);
-    code
+    let told = step(alloc, handle, image, &Command::Versions { x: x.subject() });
+    keep_oids(alloc, handle, told, count)
 }
 
 /// Removes a frozen version.
@@ -102,14 +93,16 @@ pub extern "C" fn exsm_core_drop(
     image: &mut [u8],
     x: &Identifier,
 ) -> u32
-    requires { IsOpen handle.old.value }
-    ensures kept { IsOpen handle.new.value }
+    requires { IsLentBy handle.old.value image.old }
+    ensures answers { Answers handle.old.value handle.new.value image.old image.new
+        (DropVersion (numbered x.now)) result
+        (λ told. ⊤) }
 {
-    let mut open = take(alloc, handle);
-    let code = match open.call(alloc, image, &Command::DropVersion { x: x.subject() }) {
-        Ok(Reply::DropVersion { .. }) => OK,
-        told => open.refuse(told),
-    };
-    give(handle, open);
-    code
+    let told = step(
+        alloc,
+        handle,
+        image,
+        &Command::DropVersion { x: x.subject() },
+    );
+    tell_done(told)
 }

@@ -1,0 +1,12 @@
+use Rattle.exsm_c.proofs.Answering.{nothing_told}
+use Rattle.exsm_c.proofs.exports.files.exsm_core_file.Goals as goal
+
+pub returns : goal.returns
+returns c = record {
+  answers = record {
+    result = c.step-told.result;
+    steps = c.step-told.ensures;
+    answered = c.tell_done.ensures;
+    tells = nothing_told c.step-told.result;
+  };
+}
