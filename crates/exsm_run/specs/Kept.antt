@@ -24,6 +24,7 @@ use Rattle.session_core.specs.Damage.{IsSessionDamage}
 use Rattle.session_core.specs.Meant.{meant}
 use Rattle.session_core.specs.Sessions.{FreesGivenBack, FreesTaken, SessionState, TakesLogged}
 use Rattle.session_core.specs.Steps.{IsQuiet, IsRefused, OnlyFrames}
+use Rattle.session_core.specs.Updates.{WritesUnused}
 use Rattle.transactions.specs.Commands.{IsCopy, IsOfCatalog, ReadsAlone, names_version}
 
 -- Where a commit, a checkpoint, an abort or a close was asked for.
@@ -65,9 +66,11 @@ pub record StepKeeps (old new : SessionState) (a b : Outside) (r : Request) (res
   pub refused : IfOk result (λ told. IsRefused told → OnlyFrames a b old new)
   pub quiet : IsQuiet r → new.log ≡ old.log
   pub reads : ReadsAlone r → ReadsOnly a b
-  -- Between two commits no byte is written that a crash image rests on, and the log says the records that it said.
+  -- Between two commits no byte is written that a crash image rests on, nor any other one but of units that are not in use, and the log says the records
+  -- that it said.
   pub writes : IsQuiet r → (before : View SessionState) → before.session ≡ old → (now : ShowsNow meant a before)
       → ChangesWithin (λ i. IsDurable now.shows.decoded before.disk i → ⊥) a b
+  pub unused : IsQuiet r → WritesUnused a b old
   pub records : IsQuiet r → (before : View SessionState) → before.session ≡ old → ShowsNow meant a before → (records : List LogRecord)
       → SaysLog old.geometry records before.disk → (later : List ℕ) × (b.disk ≡ Some later) × SaysLog old.geometry records later
   -- A copy of a version shares its tree: each unit that comes into use is a logged page.

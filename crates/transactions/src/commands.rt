@@ -21,6 +21,7 @@ ghost use Rattle.session_core.specs.Counts.{free_in};
 ghost use Rattle.session_core.specs.Damage.{IsSessionDamage, TellsDamage};
 ghost use Rattle.session_core.specs.Meant.{meant};
 ghost use Rattle.session_core.specs.Steps.{IsRefused, OnlyFrames, IsQuiet};
+ghost use Rattle.session_core.specs.Updates.{WritesUnused};
 ghost use Rattle.transactions.specs.Commands.{Answers, IsCopy, IsOfCatalog, ReadsAlone, asks_objects, names_version};
 
 use crate::changes::{append, delete, insert, replace};
@@ -191,11 +192,14 @@ pub fn step<H: Host>(
     ensures reads { ReadsAlone (request_of command.now)
         → ReadsOnly (H.outside host.old) (H.outside host.new) }
 
-    // Between two commits no byte is written that a crash image rests on, and the log says the records that it said.
+    // Between two commits no byte is written that a crash image rests on, nor any other one but of units that are not in use, and the log says the records
+    // that it said.
     ensures writes { IsQuiet (request_of command.now) → (before : View SessionState)
         → before.session ≡ session.old → (now : ShowsNow meant (H.outside host.old) before)
         → ChangesWithin (λ i. IsDurable now.shows.decoded before.disk i → ⊥)
         (H.outside host.old) (H.outside host.new) }
+    ensures unused { IsQuiet (request_of command.now) → WritesUnused (H.outside host.old)
+        (H.outside host.new) session.old }
     ensures records { IsQuiet (request_of command.now) → (before : View SessionState)
         → before.session ≡ session.old → ShowsNow meant (H.outside host.old) before
         → (records : List LogRecord) → SaysLog session.old.geometry records before.disk

@@ -1,5 +1,5 @@
 //! A version that is derived from a frozen one.
-ghost use Rattle.std.specs.Prelude.{◌≡◌, ◌≤◌, ◌+◌, IfOk, IfErr, OnOk, None, length};
+ghost use Rattle.std.specs.Prelude.{◌≡◌, ◌≤◌, ◌+◌, IfOk, IfErr, OnErr, OnOk, None, length};
 ghost use Rattle.ex_base.specs.Ports.{HasCause, IsDamage};
 ghost use Rattle.ex_base.specs.declared.names.Area.TheVariants.{Page, Segment};
 ghost use Rattle.object_records.specs.Record.{Record};
@@ -136,6 +136,7 @@ pub fn derive<V: Volume>(
     ensures len { OnOk result (V.tells volume.old → (index : Index) (is : Record)
         → (has : HasRecord V.Ground volume.old index oid.now is)
         → room.new.len ≡ length has.body) }
+    ensures unplaced { OnErr result (room.new ≡ room.old) }
     ensures pages { OnOk result (V.free volume.old Page ≤ V.free volume.new Page + body_pages) }
     ensures takes { OnOk result (OnlyTakes V.Ground volume.old volume.new) }
     ensures sound { IfErr result (λ fault. IsDamage fault → V.tells volume.old
@@ -153,11 +154,15 @@ pub fn derive<V: Volume>(
 {
     let version = stored_version(volume, alloc, oid)?;
     check(is_frozen(&version.head), version.place)?;
+    let remembered = *room;
     match derive_read(volume, alloc, room, &version, unique) {
         Ok(place) => Ok(Copied {
             oid: oid_at(place, unique),
             come: root_in(&version.body),
         }),
-        Err(fault) => Err(fault),
+        Err(fault) => {
+            *room = remembered;
+            Err(fault)
+        }
     }
 }

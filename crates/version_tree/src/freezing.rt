@@ -1,5 +1,5 @@
 //! A version that is frozen: a frozen copy comes between it and its older one.
-ghost use Rattle.std.specs.Prelude.{◌≡◌, ◌≤◌, ◌+◌, ◌⊎◌, IfOk, IfErr, IfSome, IsSomeAnd, OnOk, List, Option, Some, length};
+ghost use Rattle.std.specs.Prelude.{◌≡◌, ◌≤◌, ◌+◌, ◌⊎◌, IfOk, IfErr, IfSome, IsSomeAnd, OnErr, OnOk, List, Option, Some, length};
 ghost use Rattle.ex_base.specs.Ports.{HasCause, IsDamage};
 ghost use Rattle.ex_base.specs.declared.names.Area.TheVariants.{Page, Segment};
 ghost use Rattle.ex_base.specs.declared.names.Place.{Place};
@@ -181,6 +181,7 @@ pub fn freeze<V: Volume>(
     ensures len { OnOk result (V.tells volume.old → (index : Index) (is : Record)
         → (has : HasRecord V.Ground volume.old index oid.now is)
         → room.new.len ≡ length has.body) }
+    ensures unplaced { OnErr result (room.new ≡ room.old) }
     ensures pages { OnOk result (V.free volume.old Page ≤ V.free volume.new Page + body_pages) }
     ensures takes { OnOk result (OnlyTakes V.Ground volume.old volume.new) }
     ensures sound { IfErr result (λ fault. IsDamage fault → V.tells volume.old
@@ -199,11 +200,15 @@ pub fn freeze<V: Volume>(
     let version = stored_version(volume, alloc, oid)?;
     check(is_current(&version.head), version.place)?;
     let older = linked_older(volume, alloc, &version)?;
+    let remembered = *room;
     match freeze_read(volume, alloc, room, &version, &older, unique) {
         Ok(place) => Ok(Copied {
             oid: oid_at(place, unique),
             come: root_in(&version.body),
         }),
-        Err(fault) => Err(fault),
+        Err(fault) => {
+            *room = remembered;
+            Err(fault)
+        }
     }
 }

@@ -41,3 +41,12 @@ returns-then-is_err-clause-stands g c = λ page want got is. damage_at (g.H.Worl
 pub returns-else-is_err-clause-stands : goal.returns-else-is_err-clause-stands
 returns-else-is_err-clause-stands g c = λ page want got is. damage_at (g.H.World.outside c.args.host.now) (g.H.World.outside c.answer-told.new.host) c.args.session.now
     (names_version c.args.session.now (request_of c.args.command.now)) c.answer-told.result page want got c.answer-told.ensures.damage is
+
+pub returns-then-is_down-clause-unused : goal.returns-then-is_down-clause-unused
+returns-then-is_down-clause-unused g c = λ quiet. changes_refl _ (g.H.World.outside c.args.host.now)
+
+pub returns-then-is_err-clause-unused : goal.returns-then-is_err-clause-unused
+returns-then-is_err-clause-unused g c = c.answer-told.ensures.answers.writes
+
+pub returns-else-is_err-clause-unused : goal.returns-else-is_err-clause-unused
+returns-else-is_err-clause-unused g c = c.answer-told.ensures.answers.writes

@@ -26,6 +26,7 @@ returns-clause-kept g c =
       quiet = promise.quiet;
       reads = promise.reads;
       writes = promise.writes;
+      unused = promise.unused;
       records = promise.records;
       shares = promise.shares;
       ends = record {
