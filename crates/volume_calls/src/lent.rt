@@ -8,8 +8,8 @@ ghost use Rattle.volume_calls.specs.Lines.{line_of};
 ghost use Rattle.volume_calls.specs.Over.{LinesOver, OpensOver, StepsOver};
 
 use crate::lines::{Unanswered, step_line};
-use lent_host::{Asked, FileBytes, LentHost};
 use engines::Engine;
+use lent_host::{Asked, FileBytes, LentHost};
 use session_views::{OpenFault, Stop};
 use std::alloc::Global;
 use table_model::{Command, Refusal, Reply};

@@ -13,8 +13,8 @@ ghost use Rattle.volume_calls.specs.declared.lines.Unanswered.TheVariants as una
 use crate::forms::{is_formed, unformed};
 use crate::lent::{line_lent, open_lent, step_lent};
 use crate::lines::Unanswered;
-use lent_host::{Asked, FileBytes};
 use engines::Engine;
+use lent_host::{Asked, FileBytes};
 use session_views::{OpenFault, Stop};
 use std::alloc::Global;
 use table_model::{Command, Refusal, Reply};
