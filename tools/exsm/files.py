@@ -11,7 +11,7 @@ from datetime import datetime, timezone
 from typing import Callable, Iterable, Iterator, NamedTuple, Optional
 
 from exsm.client import Broken, Ended, ProgramMissing, Refused, Store, leave_output
-from exsm.commands import status_of
+from exsm.commands import INTERRUPTED, status_of
 from exsm.lines import reason_of
 from exsm.names import (
     BLOBS_FILE, FACTS_FILE, NAME_LINE, NAMES_FILE, SOURCES_FILE, NameList, Wrong, unique_of)
@@ -20,9 +20,6 @@ from exsm.spelling import meaning
 from exsm.whole import remove_left, whole_file
 
 __all__ = ["BLOBS_FILE", "NAMES_FILE", "NAME_LINE", "Names", "Wrong"]
-
-INTERRUPTED = 130
-"""The exit status after Ctrl-C."""
 
 INTERRUPTION = ("exsm_files: interrupted; what was told is done, and no file is in the volume in "
                 "part")

@@ -173,16 +173,37 @@ def tell(done: Iterable[Done]) -> None:
     print("".join(lines), end="", flush=True)
 
 
+class Cost(NamedTuple):
+    """What files that are put together take of a transaction."""
+
+    size: int = 0
+    updates: int = 0
+
+    @classmethod
+    def of(cls, it: Put) -> Cost:
+        """That of one file; of one whose size isn't known, more than a group may have."""
+        size = GROUP_MOST + 1 if it.size is None else it.size
+        return cls(size, PUT_UPDATES + -(-size // PIECE))
+
+    def with_other(self, other: Cost) -> Cost:
+        """Both together."""
+        return Cost(self.size + other.size, self.updates + other.updates)
+
+    def is_small(self) -> bool:
+        """Whether they go together."""
+        return self.size <= GROUP_MOST and self.updates <= UPDATES_MOST
+
+
 def groups(puts: list[Put]) -> Iterator[list[Put]]:
     """The files as they are put: small ones that follow each other together, others alone."""
     group: list[Put] = []
-    size = updates = 0
+    taken = Cost()
     for it in puts:
-        more = GROUP_MOST + 1 if it.size is None else it.size
-        size, updates = size + more, updates + PUT_UPDATES + -(-more // PIECE)
-        if group and (size > GROUP_MOST or updates > UPDATES_MOST):
+        cost = Cost.of(it)
+        taken = taken.with_other(cost)
+        if group and not taken.is_small():
             yield group
-            group, size, updates = [], more, PUT_UPDATES + -(-more // PIECE)
+            group, taken = [], cost
         group.append(it)
     if group:
         yield group
