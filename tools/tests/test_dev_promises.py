@@ -116,7 +116,7 @@ class PromisesTest(InToy):
                 self.assertIn(f" {len(told)} names that are gone", ran.lines[-1])
 
     def test_kept(self) -> None:
-        """an edit that the gate leaves out stands in brackets in the map, and is held to its text"""
+        """an edit that the gate leaves out is in brackets in the map, and is held to its text"""
         self.write("tools/edits/exsm_run/first_page_is_read.edit",
                    "file: src/lib.rt\nold:     Page::of(number).read()\n"
                    "new:     Page::of(1).read()\n")
