@@ -289,7 +289,7 @@ def get(names: Names, name: str, out: Optional[str], how: Writing) -> None:
         write_all(names, {os.fsencode(name): out}, how)
         return
     with names.store.scan(oid) as scan:
-        sys.stdout.buffer.writelines(scan)
+        scan.each(sys.stdout.buffer.write)
     sys.stdout.buffer.flush()
 
 
@@ -326,9 +326,7 @@ def write_all(names: Names, targets: dict[bytes, str], how: Writing) -> None:
             os.makedirs(os.path.dirname(path) or ".", exist_ok=True)
             with whole_file(path, how.replace, sync=False) as part:
                 with open(part, "xb") as out, names.store.scan(names.oid(name)) as scan:
-                    for piece in scan:
-                        out.write(piece)
-                        progress.add(len(piece))
+                    scan.each(lambda piece: progress.add(out.write(piece)))
                 if how.preserve:
                     restore(part, names.facts(name))
 

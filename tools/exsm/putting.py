@@ -290,12 +290,6 @@ def put_together(names: Names, group: list[Put], replace: bool, progress: Progre
     return True
 
 
-def append(names: Names, oid: str, pieces: Iterable[bytes]) -> None:
-    """Puts pieces at the end of an object."""
-    for piece in pieces:
-        names.store.append(oid, piece)
-
-
 def put_at_once(names: Names, it: Put, replace: bool, pieces: Iterable[bytes],
                 read: Reading) -> str:
     """Stores a file in one transaction."""
@@ -314,7 +308,7 @@ def put_within(names: Names, it: Put, replace: bool, pieces: Iterable[bytes],
         names.store.delete(oid, 0, names.store.size(oid))
     else:
         oid = names.create()
-    append(names, oid, pieces)
+    names.store.append_each(oid, pieces)
     names.put_from(oid, it.source)
     names.name(it.name, oid, read.facts())
     return oid
@@ -330,7 +324,7 @@ def put_in_parts(names: Names, it: Put, replace: bool, pieces: Iterator[bytes],
         names.put_from(oid, it.source)
     while part := list(islice(pieces, 1)):
         with names.transaction():
-            append(names, oid, chain(part, islice(pieces, PUT_PIECES - 1)))
+            names.store.append_each(oid, chain(part, islice(pieces, PUT_PIECES - 1)))
     try:
         with names.transaction():
             if not replace:
