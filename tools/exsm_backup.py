@@ -16,9 +16,7 @@ from exsm.commands import add_json, add_wait, parser_of
 
 def main() -> int:
     """Backs the volume up, and gives the exit status."""
-    parser = parser_of(__doc__)
-    parser.add_argument("volume", metavar="VOLUME")
-    parser.add_argument("file", metavar="FILE")
+    parser = parser_of(__doc__, "VOLUME", "FILE")
     add_wait(parser)
     add_json(parser)
     words = parser.parse_args()

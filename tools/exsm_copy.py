@@ -16,9 +16,7 @@ from exsm.copying import run
 
 def main() -> int:
     """Copies the volume, and gives the exit status."""
-    parser = parser_of(__doc__)
-    parser.add_argument("volume", metavar="VOLUME")
-    parser.add_argument("copy", metavar="COPY")
+    parser = parser_of(__doc__, "VOLUME", "COPY")
     add_socket(parser)
     add_json(parser)
     words = parser.parse_args()

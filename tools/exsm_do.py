@@ -25,8 +25,7 @@ from exsm.prompt import talk
 
 def main() -> int:
     """Runs what the words name, and gives the exit status."""
-    parser = parser_of(__doc__)
-    parser.add_argument("volume", metavar="VOLUME")
+    parser = parser_of(__doc__, "VOLUME")
     parser.add_argument("script", metavar="SCRIPT", nargs="?",
                         help="a file with the lines; standard input where it isn't told")
     add_socket(parser)

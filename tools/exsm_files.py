@@ -29,8 +29,7 @@ def add_replace(parser: argparse.ArgumentParser, what: str) -> None:
 
 def parser_of_words() -> argparse.ArgumentParser:
     """Reads the words."""
-    parser = parser_of(__doc__)
-    parser.add_argument("volume", metavar="VOLUME")
+    parser = parser_of(__doc__, "VOLUME")
     add_socket(parser)
     commands = parser.add_subparsers(metavar="COMMAND", dest="command", required=True)
     add_put_and_get(commands)

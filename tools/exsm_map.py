@@ -15,8 +15,7 @@ from exsm.map import run
 
 def main() -> int:
     """Tells the use, draws the picture, and gives the exit status."""
-    parser = parser_of(__doc__)
-    parser.add_argument("volume", metavar="VOLUME")
+    parser = parser_of(__doc__, "VOLUME")
     parser.add_argument("out", metavar="OUT.svg", nargs="?",
                         help="the picture, which is written anew")
     add_json(parser)

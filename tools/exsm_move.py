@@ -18,15 +18,13 @@ from exsm.move import run
 
 def main() -> int:
     """Moves the objects, and gives the exit status."""
-    parser = parser_of(__doc__)
-    parser.add_argument("old", metavar="VOLUME")
-    parser.add_argument("new", metavar="NEW")
+    parser = parser_of(__doc__, "VOLUME", "NEW")
     parser.add_argument("--size", metavar="SIZE", type=size,
                         help="the size of NEW where it isn't there, as 1G")
     add_wait(parser)
     add_json(parser)
     words = parser.parse_args()
-    return run(words.old, words.new, words.size, words.wait, words.json)
+    return run(words.volume, words.new, words.size, words.wait, words.json)
 
 
 if __name__ == "__main__":

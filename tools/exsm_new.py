@@ -16,8 +16,7 @@ from exsm.new import MIXED, PARTS_FOR_PAGES, make
 
 def main() -> int:
     """Makes the volume, and gives the exit status: that of exsm, or 1."""
-    parser = parser_of(__doc__)
-    parser.add_argument("volume", metavar="VOLUME")
+    parser = parser_of(__doc__, "VOLUME")
     parser.add_argument("size", metavar="SIZE", type=size, nargs="?")
     parser.add_argument(
         "--for", dest="kind", choices=PARTS_FOR_PAGES, default=MIXED,

@@ -22,8 +22,7 @@ from exsm.serve import run
 
 def main() -> int:
     """Serves the volume, and gives the exit status."""
-    parser = parser_of(__doc__)
-    parser.add_argument("volume", metavar="VOLUME")
+    parser = parser_of(__doc__, "VOLUME")
     parser.add_argument("socket", metavar="SOCKET",
                         help="where it is served; a file that no server answers at is replaced "
                              "where it is a socket")

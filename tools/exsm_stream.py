@@ -14,7 +14,7 @@ import signal
 import sys
 
 from exsm.client import Ended
-from exsm.commands import add_json, add_wait, parser_of
+from exsm.commands import INTERRUPTED, add_json, add_wait, parser_of
 from exsm.records import BadVolume
 from exsm.stream_files import NoNumber, check, ended, get, list_versions, make
 from exsm.streams import BadStream
@@ -22,8 +22,7 @@ from exsm.streams import BadStream
 
 def parser_of_words() -> argparse.ArgumentParser:
     """Reads the words."""
-    parser = parser_of(__doc__)
-    parser.add_argument("stream", metavar="STREAM")
+    parser = parser_of(__doc__, "STREAM")
     commands = parser.add_subparsers(metavar="COMMAND", required=True)
     checking = commands.add_parser(
         "check", help="tells what a stream holds; status 1 where it is no dump, with the reason")
@@ -55,7 +54,7 @@ def main() -> int:
         return ended(words.stream, fault)
     except KeyboardInterrupt:
         print("exsm_stream: interrupted", file=sys.stderr)
-        return 130
+        return INTERRUPTED
 
 
 if __name__ == "__main__":

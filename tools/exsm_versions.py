@@ -26,8 +26,7 @@ def place_of(words: argparse.Namespace) -> Place:
 
 def parser_of_words() -> argparse.ArgumentParser:
     """Reads the words."""
-    parser = parser_of(__doc__)
-    parser.add_argument("volume", metavar="VOLUME")
+    parser = parser_of(__doc__, "VOLUME")
     add_socket(parser)
     commands = parser.add_subparsers(metavar="COMMAND", required=True)
     add_shows(commands)

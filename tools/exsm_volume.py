@@ -26,8 +26,7 @@ from exsm.volume import NoVersion, Volume
 
 def parser_of_words() -> argparse.ArgumentParser:
     """Reads the words."""
-    parser = parser_of(__doc__)
-    parser.add_argument("volume", metavar="VOLUME")
+    parser = parser_of(__doc__, "VOLUME")
     commands = parser.add_subparsers(metavar="COMMAND", dest="command", required=True)
     checking = commands.add_parser(
         "check", help="tells the part that an opening refuses; status 1 where there is one")

@@ -22,7 +22,6 @@ needs any more fails the check too.
 """
 from __future__ import annotations
 
-import argparse
 import itertools
 import os
 import re
@@ -33,6 +32,7 @@ from typing import Callable, Iterator, NamedTuple
 sys.dont_write_bytecode = True
 
 from crate_code import TOP, files_below, text_of  # noqa: E402
+from words import parser_of  # noqa: E402
 
 SECTION = "## Blocks that stand alike"
 # The least lines of a block in two crates, and of one in two files of a crate.
@@ -308,8 +308,7 @@ def check(files: list[Source], least: int, within: int) -> int:
 
 def main() -> int:
     """Prints or checks, and gives the exit status."""
-    parser = argparse.ArgumentParser(
-        description=__doc__, formatter_class=argparse.RawDescriptionHelpFormatter)
+    parser = parser_of(__doc__)
     kinds = parser.add_mutually_exclusive_group()
     kinds.add_argument("--check", action="store_true", help="say what DECISIONS doesn't name")
     kinds.add_argument("--near", action="store_true", help="blocks with others between")

@@ -51,6 +51,11 @@ def edits_of(crate: str) -> list[str]:
     return list(files_below(f"crates/{crate}/must-fail", ".edit"))
 
 
+def kept_edits_of(crate: str) -> list[str]:
+    """The files of a crate's must-fail edits that the gate leaves out."""
+    return list(files_below(f"tools/edits/{crate}", ".edit"))
+
+
 @dataclass(eq=False)
 class Function:
     """A function: where it stands, what it belongs to, its clauses, and the names in its text."""

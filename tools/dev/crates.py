@@ -18,7 +18,6 @@ that the table of docs/GATE.md has for the proofs of its crates.
 """
 from __future__ import annotations
 
-import argparse
 import os
 import re
 import sys
@@ -30,6 +29,7 @@ sys.dont_write_bytecode = True
 from crate_code import (  # noqa: E402
     TOP, edits_of, files_below, named_crates, text_of, write_text)
 from marks import Marks, NoMarks  # noqa: E402
+from words import parser_of  # noqa: E402
 
 PROGRAM = "exsm"
 # The static library beside the program.
@@ -389,8 +389,7 @@ def report(crates: Crates, bands: dict[str, str], graph: Graph) -> None:
 
 def main() -> int:
     """Prints, writes or checks, and gives the exit status."""
-    parser = argparse.ArgumentParser(
-        description=__doc__, formatter_class=argparse.RawDescriptionHelpFormatter)
+    parser = parser_of(__doc__)
     parser.add_argument("--check", action="store_true", help="say what breaks a rule")
     parser.add_argument("--write", action="store_true", help="write the layers into the page")
     words = parser.parse_args()

@@ -17,6 +17,7 @@ from pathlib import Path
 sys.dont_write_bytecode = True
 
 from marks import Marks, NoMarks  # noqa: E402
+from words import parser_of  # noqa: E402
 
 TOP = Path(__file__).resolve().parent.parent.parent
 PAGE = TOP / "docs" / "SPEED.md"
@@ -66,8 +67,7 @@ def write_figures(bench: str, words: list[str]) -> int:
 
 def main() -> int:
     """Writes a bench's figures, and gives the exit status."""
-    parser = argparse.ArgumentParser(
-        description=__doc__, formatter_class=argparse.RawDescriptionHelpFormatter)
+    parser = parser_of(__doc__)
     parser.add_argument("bench", metavar="BENCH", help="a file below bench/")
     parser.add_argument("words", metavar="WORD", nargs=argparse.REMAINDER, help="its words")
     words = parser.parse_args()

@@ -10,7 +10,6 @@ table, and how many were tried of each thing together stands at the end.
 """
 from __future__ import annotations
 
-import argparse
 import json
 import re
 import sys
@@ -21,6 +20,7 @@ from typing import NamedTuple
 sys.dont_write_bytecode = True
 
 from marks import Marks, NoMarks  # noqa: E402
+from words import parser_of  # noqa: E402
 
 TOP = Path(__file__).resolve().parent.parent.parent
 PAGE = TOP / "docs" / "TESTS.md"
@@ -99,8 +99,7 @@ def beside(told: str, program: str, part: str) -> str:
 
 def main() -> int:
     """Prints or writes, and gives the exit status."""
-    parser = argparse.ArgumentParser(
-        description=__doc__, formatter_class=argparse.RawDescriptionHelpFormatter)
+    parser = parser_of(__doc__)
     parser.add_argument("files", metavar="FILE", nargs="+", type=Path, help="what a campaign told")
     parser.add_argument("--about", metavar="TEXT", default="a program", help="which program it was")
     parser.add_argument("--write", action="store_true", help="write the page")

@@ -19,7 +19,6 @@ other work ran beside some. Logs that share no proof with the table are taken as
 """
 from __future__ import annotations
 
-import argparse
 import re
 import sys
 from pathlib import Path
@@ -30,6 +29,7 @@ sys.dont_write_bytecode = True
 
 from crate_code import edits_of, files_below, named_crates, text_of, write_text  # noqa: E402
 from marks import Marks, NoMarks  # noqa: E402
+from words import parser_of  # noqa: E402
 
 PAGE = "docs/GATE.md"
 MARKS = Marks("<!-- written by tools/dev/gate_log.py -->", "<!-- end of what it writes -->")
@@ -219,8 +219,7 @@ def of_last(last: Optional[Log]) -> str:
 
 def main() -> int:
     """Prints or writes the table, and gives the exit status."""
-    parser = argparse.ArgumentParser(
-        description=__doc__, formatter_class=argparse.RawDescriptionHelpFormatter)
+    parser = parser_of(__doc__)
     parser.add_argument("logs", metavar="LOG", nargs="*", type=Path)
     parser.add_argument("--again", action="store_true", help="with the figures that stand there")
     parser.add_argument("--scaled", action="store_true",

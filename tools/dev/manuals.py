@@ -6,13 +6,16 @@
 """
 from __future__ import annotations
 
-import argparse
 import os
 import re
 import subprocess
 import sys
 from pathlib import Path
 from typing import Iterator
+
+sys.dont_write_bytecode = True
+
+from words import parser_of  # noqa: E402
 
 TOP = Path(__file__).resolve().parent.parent.parent
 PAGES = TOP / "docs" / "man"
@@ -94,8 +97,7 @@ def page_of(tool: Path) -> str:
 
 def main() -> int:
     """Writes or checks the pages, and gives the exit status."""
-    parser = argparse.ArgumentParser(description=__doc__,
-                                     formatter_class=argparse.RawDescriptionHelpFormatter)
+    parser = parser_of(__doc__)
     parser.add_argument("--check", action="store_true")
     check = parser.parse_args().check
     pages = {f"{tool.name}.1": page_of(tool)

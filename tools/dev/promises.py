@@ -22,7 +22,6 @@ How each is read stands in the module of tools/dev/held/ that is about it.
 """
 from __future__ import annotations
 
-import argparse
 import sys
 
 sys.dont_write_bytecode = True
@@ -31,6 +30,7 @@ from crate_code import Sources, has_file, text_of, write_text  # noqa: E402
 from held import against, checks, glossary, readme, sentences, tour  # noqa: E402
 from held.map import PAGE as MAP, the_map  # noqa: E402
 from held.promises import Page  # noqa: E402
+from words import parser_of  # noqa: E402
 
 
 def faults_of(page: Page) -> list[str]:
@@ -51,8 +51,7 @@ def faults_of(page: Page) -> list[str]:
 
 def main() -> int:
     """Looks at the documents, writes or compares the map, and gives the exit status."""
-    parser = argparse.ArgumentParser(
-        description=__doc__, formatter_class=argparse.RawDescriptionHelpFormatter)
+    parser = parser_of(__doc__)
     parser.add_argument("--check", action="store_true", help="write nothing")
     parser.add_argument("--against", metavar="COMMIT", help="list what changed or went since")
     words = parser.parse_args()

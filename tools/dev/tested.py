@@ -7,7 +7,6 @@
 """
 from __future__ import annotations
 
-import argparse
 import ast
 import sys
 from pathlib import Path
@@ -15,6 +14,7 @@ from pathlib import Path
 sys.dont_write_bytecode = True
 
 from marks import Marks, NoMarks  # noqa: E402
+from words import parser_of  # noqa: E402
 
 TOP = Path(__file__).resolve().parent.parent.parent
 TESTS = TOP / "tools" / "tests"
@@ -51,8 +51,7 @@ def text() -> str:
 
 def main() -> int:
     """Prints, writes or checks, and gives the exit status."""
-    parser = argparse.ArgumentParser(
-        description=__doc__, formatter_class=argparse.RawDescriptionHelpFormatter)
+    parser = parser_of(__doc__)
     parser.add_argument("--write", action="store_true", help="write the page")
     parser.add_argument("--check", action="store_true", help="compare the page")
     words = parser.parse_args()

@@ -4,12 +4,12 @@ from __future__ import annotations
 import json
 import os
 import subprocess
-import sys
 import time
 from typing import BinaryIO
 
 from exsm.client import Ended, Locked, NoVolume, ProgramMissing
-from exsm.commands import status_of
+from exsm.commands import failed, interrupted
+from exsm.hints import no_volume
 from exsm.lines import reason_of
 from exsm.progress import MIB, STEP, Progress
 from exsm.stream_files import as_json, holds, tested_file
@@ -65,8 +65,7 @@ def fault_text(fault: Exception, volume: str) -> str:
         return (f"{volume}: another run has it open; copy it by exsm_copy.py VOLUME COPY --socket "
                 "SOCKET where a server has it, and back up the copy")
     if isinstance(fault, NoVolume):
-        return (f"{volume}: no volume, or a damaged one (part {fault.part}); "
-                f"`exsm_volume.py {volume} save FOLDER` saves what can be read")
+        return no_volume(volume, fault)
     if isinstance(fault, Ended) and fault.status == USAGE:
         return "the program exsm has no `dump`: take a newer one"
     if isinstance(fault, BadStream):
@@ -79,11 +78,9 @@ def run(volume: str, path: str, wait: float, is_json: bool) -> int:
     try:
         stream, size = back_up(volume, path, wait)
     except (BadStream, Ended, OSError, ProgramMissing) as fault:
-        print(f"exsm_backup: {fault_text(fault, volume)}; no backup was made", file=sys.stderr)
-        return status_of(fault) if isinstance(fault, Ended) else 1
+        return failed("exsm_backup", f"{fault_text(fault, volume)}; no backup was made", fault)
     except KeyboardInterrupt:
-        print("exsm_backup: interrupted; no backup was made", file=sys.stderr)
-        return 130
+        return interrupted("exsm_backup", "no backup was made")
     if is_json:
         print(json.dumps({"bytes": size, **json.loads(as_json(stream))}))
     else:

@@ -22,8 +22,8 @@ import sys
 import threading
 import time
 import weakref
-from contextlib import contextmanager
-from typing import Iterator, NamedTuple, Optional
+from contextlib import closing, contextmanager, suppress
+from typing import Callable, Generator, Iterable, Iterator, NamedTuple, Optional
 
 from exsm.library import LibraryMissing, opened
 from exsm.objects import LINE_MOST, PIECE, READ_PIECE, Objects
@@ -96,6 +96,15 @@ def is_answered(line: bytes) -> bool:
     return words != b"" and not words.startswith(b"#")
 
 
+def words_of(line: bytes, reply: Optional[str]) -> Words:
+    """The words of a reply to a line behind `ok` and the first word; `Refused` where it says no."""
+    # One space stands between two words. To look for any kind of space takes far longer.
+    words = (reply or "").split(" ")
+    if words[0] == "no":
+        raise Refused(line.decode("ascii"), int(words[1]), words[2], words[3:])
+    return words[2:]
+
+
 def leave_output() -> None:
     """Leaves standard output, whose reader is gone: what is still to be written goes nowhere."""
     os.dup2(os.open(os.devnull, os.O_WRONLY), sys.stdout.fileno())
@@ -119,6 +128,14 @@ class Scan:
     def __iter__(self) -> Iterator[bytes]:
         while piece := self.next(READ_PIECE):
             yield piece
+
+    def each(self, take: Callable[[bytes], object]) -> None:
+        """Hands a scan that was just opened to a function, piece by piece. The program is at the
+        next piece meanwhile, so the function asks nothing of this store."""
+        count = -(-self.size // READ_PIECE)
+        with closing(self._store.objects.next_each(self._name, READ_PIECE, count)) as pieces:
+            for piece in pieces:
+                take(piece)
 
     def close(self) -> None:
         """Closes it: what it alone kept in use is free."""
@@ -181,25 +198,34 @@ class Store:
         this = weakref.proxy(self)                 # so that a store that is forgotten goes at once
         of_session = getattr(transport, "objects", Objects)
         self.objects: Objects = of_session(lambda line: this.ask(line),
-                                           lambda line: this._bind(line))
+                                           lambda line: this._bind(line),
+                                           lambda lines: this.ask_each(lines))
         """The calls on objects: lines, or those of the session, where it takes bytes."""
 
     # Lines.
 
     def exchange(self, line: bytes) -> Optional[str]:
         """Sends a line, which has no line feed, and gives its reply, or None where none comes."""
+        with self._lock:
+            self._send(line)
+            return self._receive(line)
+
+    def _send(self, line: bytes) -> None:
+        """Sends a line, whose reply is to be read before another one is sent."""
         if b"\n" in line:
             raise ValueError("a line has no line feed")
-        with self._lock:
-            if self._waits:
-                raise Broken("the wait for the reply to an earlier line was broken off, so no "
-                             "later reply can be told from it: close this store, open another")
-            self._waits = True
-            self._keeps = self._keeps or line.split(None, 1)[:1] in KEEPING and OWN not in line
-            self._transport.send(line)
-            reply = self._transport.receive() if is_answered(line) else None
-            self._waits = False
-            return reply
+        if self._waits:
+            raise Broken("the wait for the reply to an earlier line was broken off, so no later "
+                         "reply can be told from it: close this store, open another")
+        self._waits = True
+        self._keeps = self._keeps or line.split(None, 1)[:1] in KEEPING and OWN not in line
+        self._transport.send(line)
+
+    def _receive(self, line: bytes) -> Optional[str]:
+        """The reply to the line that was sent, or None where none comes."""
+        reply = self._transport.receive() if is_answered(line) else None
+        self._waits = False
+        return reply
 
     def patient_exchange(self, line: bytes, busy_wait: Optional[float] = None) -> Optional[str]:
         """Exchanges a line; where another user's transaction is open it is tried again.
@@ -224,10 +250,35 @@ class Store:
         sent = line.encode("ascii")
         if not is_answered(sent):
             raise ValueError(f"no reply comes to this line: {shortened(line)}")
-        words = (self.patient_exchange(sent, busy_wait) or "").split()
-        if words[0] == "no":
-            raise Refused(line, int(words[1]), words[2], words[3:])
-        return words[2:]
+        return words_of(sent, self.patient_exchange(sent, busy_wait))
+
+    def ask_each(self, lines: Iterable[str]) -> Generator[Words, None, None]:
+        """Sends lines that each get a reply, and gives the words of the replies, as `ask` does.
+
+        A line is made while the session is at the one before, and sent before the words of that
+        one's reply are given. So nothing else is asked until the iterator has ended or is closed.
+        """
+        with self._lock:
+            sent: list[bytes] = []                 # the line whose reply is to be read
+            try:
+                for line in map(str.encode, lines):
+                    told = [self._answer(sent.pop())] if sent else []
+                    self._send(line)
+                    sent.append(line)
+                    yield from told
+                if sent:
+                    yield self._answer(sent.pop())
+            finally:
+                if sent:
+                    with suppress(Ended, Cut):     # what led here is the fault to tell
+                        self._receive(sent.pop())
+
+    def _answer(self, sent: bytes) -> Words:
+        """The words of the reply to a line that was sent, which is sent again while it is busy."""
+        reply = self._receive(sent)
+        if reply is not None and reply.startswith(BUSY):
+            reply = self.patient_exchange(sent)
+        return words_of(sent, reply)
 
     def close(self) -> None:
         """Ends the script, which aborts an open transaction. `Ended` tells a status but 0."""
@@ -418,6 +469,13 @@ class Store:
         for _, piece in self._pieces_of(data):
             with self._lock:
                 self.objects.append(oid, piece)
+
+    def append_each(self, oid: str, pieces: Iterable[bytes]) -> None:
+        """Puts pieces at the end. Each is made while the program is at the one before, so what
+        makes them asks nothing of this store."""
+        parts = (part for piece in pieces for _, part in self._pieces_of(piece))
+        with self._lock:
+            self.objects.append_each(oid, parts)
 
     def insert(self, oid: str, position: int, data: bytes) -> None:
         """Puts bytes in before the one at a position, in as many calls as they need."""

@@ -3,6 +3,7 @@ from __future__ import annotations
 
 import argparse
 import os
+import sys
 from typing import IO, Optional
 
 from exsm.client import BUSY_WAIT, AnyPath, Ended, Store
@@ -10,10 +11,14 @@ from exsm.new import WrongSize, size_of
 from exsm.sockets import is_socket
 
 
-def parser_of(text: Optional[str]) -> argparse.ArgumentParser:
-    """Takes the words of a command that a text describes; `--help` writes it as it stands."""
-    return argparse.ArgumentParser(
+def parser_of(text: Optional[str], *names: str) -> argparse.ArgumentParser:
+    """Takes the words of a command that a text describes, those of these names first; `--help`
+    writes the text as it stands."""
+    parser = argparse.ArgumentParser(
         description=text, formatter_class=argparse.RawDescriptionHelpFormatter)
+    for name in names:
+        parser.add_argument(name.lower(), metavar=name)
+    return parser
 
 
 def seconds(word: str) -> float:
@@ -92,6 +97,22 @@ def add_forms(parser: argparse.ArgumentParser, zeros: str) -> None:
                        help="tells it as JSON")
 
 
+INTERRUPTED = 130
+"""The exit status after Ctrl-C."""
+
+
 def status_of(fault: Ended) -> int:
     """The status of a command where the program ended: that of a signal as a shell tells it."""
     return fault.status if fault.status > 0 else 128 - fault.status
+
+
+def failed(command: str, text: str, fault: Exception) -> int:
+    """Tells by a text why a command wasn't done, and gives the exit status of the fault."""
+    print(f"{command}: {text}", file=sys.stderr)
+    return status_of(fault) if isinstance(fault, Ended) else 1
+
+
+def interrupted(command: str, text: str) -> int:
+    """Tells that Ctrl-C ended a command, and how things stand; gives the exit status."""
+    print(f"{command}: interrupted; {text}", file=sys.stderr)
+    return INTERRUPTED

@@ -7,6 +7,7 @@ from typing import Optional
 
 from exsm.client import LINE_MOST, is_answered
 from exsm.seats import Seat
+from exsm.transport import READ_AT_ONCE
 
 SERVED_MOST = LINE_MOST - len("16 ")
 """Bytes of a line of a connection: the program counts the number before it too."""
@@ -14,7 +15,6 @@ SERVED_MOST = LINE_MOST - len("16 ")
 LINE_LONG = b"no 1 line_long"
 """The reply to a line of more bytes, which the program would give to no client."""
 
-READ_AT_ONCE = 1 << 16
 PENDING_MOST = 1 << 18
 """Bytes of whole lines above which no more are read, until some were taken."""
 

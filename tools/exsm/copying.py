@@ -3,12 +3,12 @@ from __future__ import annotations
 
 import json
 import os
-import sys
 from contextlib import contextmanager
 from typing import Iterator, Optional
 
 from exsm.client import AnyPath, Ended, Locked, NoVolume, ProgramMissing, Refused
-from exsm.commands import status_of, store_of
+from exsm.commands import failed, interrupted, store_of
+from exsm.hints import no_volume
 from exsm.lines import reason_of
 from exsm.lock import held
 from exsm.progress import MIB, Progress
@@ -46,8 +46,7 @@ def fault_text(fault: Exception, volume: str, path: str) -> str:
         return (f"{volume}: another run has it open; in that program: store.backup({path!r}); "
                 "at a server: --socket SOCKET")
     if isinstance(fault, NoVolume):
-        return (f"{volume}: no volume, or a damaged one (part {fault.part}), so no copy was made; "
-                f"`exsm_volume.py {volume} save FOLDER` saves what can be read")
+        return f"{no_volume(volume, fault)}; no copy was made"
     if isinstance(fault, Refused):
         return meaning(fault.line, fault.name, fault.values)
     return reason_of(fault)
@@ -58,9 +57,7 @@ def run(volume: str, path: str, socket: Optional[str], wait: Optional[float], as
     try:
         copy(volume, path, socket, wait, as_json)
     except (Ended, ProgramMissing, Refused, OSError) as fault:
-        print(f"exsm_copy: {fault_text(fault, volume, path)}", file=sys.stderr)
-        return status_of(fault) if isinstance(fault, Ended) else 1
+        return failed("exsm_copy", fault_text(fault, volume, path), fault)
     except KeyboardInterrupt:
-        print("exsm_copy: interrupted; no copy was made", file=sys.stderr)
-        return 130
+        return interrupted("exsm_copy", "no copy was made")
     return 0

@@ -48,10 +48,10 @@ class Runner:
         if reply is None:
             return True
         print(reply, flush=True)
-        answer, *words = reply.split()
+        answer, *words = reply.split(" ")
         text = line.decode("ascii", "replace").strip()
         if answer == "ok":
-            self._note(words[0], text.split())
+            self._note(words[0], text)
             return True
         if words[1] == "no_txn":
             self.in_transaction = False            # a server has aborted it
@@ -64,7 +64,7 @@ class Runner:
         for text in filter(None, [which, meaning(line, name, values), more]):
             tell(text)
 
-    def _note(self, word: str, line: list[str]) -> None:
+    def _note(self, word: str, line: str) -> None:
         """Notes what an accepted line opens, closes or binds."""
         if word == "begin":
             self.in_transaction, self.bound_before = True, len(self.bound)
@@ -74,7 +74,7 @@ class Runner:
             self.in_transaction = False
             del self.bound[self.bound_before:]
         elif word in BINDING:
-            self.bound.append(line[-1])
+            self.bound.append(line.split()[-1])
 
     def give_up(self) -> None:
         """Aborts an open transaction, and tells so."""

@@ -11,7 +11,7 @@ from datetime import datetime, timezone
 from typing import Callable, Iterable, Iterator, NamedTuple, Optional
 
 from exsm.client import Broken, Ended, ProgramMissing, Refused, Store, leave_output
-from exsm.commands import status_of
+from exsm.commands import INTERRUPTED, status_of
 from exsm.lines import reason_of
 from exsm.names import (
     BLOBS_FILE, FACTS_FILE, NAME_LINE, NAMES_FILE, SOURCES_FILE, NameList, Wrong, unique_of)
@@ -20,9 +20,6 @@ from exsm.spelling import meaning
 from exsm.whole import remove_left, whole_file
 
 __all__ = ["BLOBS_FILE", "NAMES_FILE", "NAME_LINE", "Names", "Wrong"]
-
-INTERRUPTED = 130
-"""The exit status after Ctrl-C."""
 
 INTERRUPTION = ("exsm_files: interrupted; what was told is done, and no file is in the volume in "
                 "part")
@@ -292,7 +289,7 @@ def get(names: Names, name: str, out: Optional[str], how: Writing) -> None:
         write_all(names, {os.fsencode(name): out}, how)
         return
     with names.store.scan(oid) as scan:
-        sys.stdout.buffer.writelines(scan)
+        scan.each(sys.stdout.buffer.write)
     sys.stdout.buffer.flush()
 
 
@@ -329,9 +326,7 @@ def write_all(names: Names, targets: dict[bytes, str], how: Writing) -> None:
             os.makedirs(os.path.dirname(path) or ".", exist_ok=True)
             with whole_file(path, how.replace, sync=False) as part:
                 with open(part, "xb") as out, names.store.scan(names.oid(name)) as scan:
-                    for piece in scan:
-                        out.write(piece)
-                        progress.add(len(piece))
+                    scan.each(lambda piece: progress.add(out.write(piece)))
                 if how.preserve:
                     restore(part, names.facts(name))
 

@@ -1,12 +1,18 @@
-"""What helps beside the meaning of a refusal, as far as the run that refused can be asked: the size
-of an object, and the size of a volume that would do."""
+"""What helps beside what a fault says, as far as it can be asked: what saves a damaged volume, the
+size of an object, and the size of a volume that would do."""
 from __future__ import annotations
 
 from typing import Optional
 
-from exsm.client import Refused, Store
+from exsm.client import AnyPath, NoVolume, Refused, Store
 from exsm.new import size_that_holds
 from exsm.opening import Opening
+
+
+def no_volume(volume: AnyPath, fault: NoVolume) -> str:
+    """What is said of a file that holds no volume, or a damaged one."""
+    return (f"{volume}: no volume, or a damaged one (part {fault.part}); "
+            f"`exsm_volume.py {volume} save FOLDER` saves what can be read")
 
 
 def page_and_unit(path: str) -> Optional[tuple[int, int]]:

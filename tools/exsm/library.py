@@ -11,9 +11,9 @@ import re
 import weakref
 from functools import lru_cache
 from pathlib import Path
-from typing import Any, Callable, Optional
+from typing import Any, Callable, Generator, Iterable, Optional
 
-from exsm.objects import Ask, Bind, Objects
+from exsm.objects import Ask, AskEach, Bind, Objects
 from exsm.refusals import NAMES, Refused
 from exsm.transport import (
     BAD_VOLUME, DISK_FAULT, AnyPath, Denied, Ended, Locked, Missing, NoVolume, Transport, begun,
@@ -172,9 +172,9 @@ class LibraryRun:
         """Under `LATER`, makes the commits that were answered outlast a loss of power."""
         self._hold(self._library.exsm_sync(self.handle))
 
-    def objects(self, ask: Ask, bind: Bind) -> ObjectsByValue:
+    def objects(self, ask: Ask, bind: Bind, ask_each: AskEach) -> ObjectsByValue:
         """The calls on objects, which pass bytes as they are."""
-        return ObjectsByValue(self, ask, bind)
+        return ObjectsByValue(self, ask, bind, ask_each)
 
     def call(self, name: str, line: Callable[[], str], *values: Any) -> None:
         """Makes a call by values; where it is refused, `Refused` says so of the line like it."""
@@ -239,8 +239,8 @@ class ObjectsByValue(Objects):
 
     piece = read_piece = DATA_MOST
 
-    def __init__(self, run: LibraryRun, ask: Ask, bind: Bind) -> None:
-        super().__init__(ask, bind)
+    def __init__(self, run: LibraryRun, ask: Ask, bind: Bind, ask_each: AskEach) -> None:
+        super().__init__(ask, bind, ask_each)
         self._run = run
         self._made, self._number, self._length = Oid(), ctypes.c_uint64(), ctypes.c_size_t()
         self._room = ctypes.create_string_buffer(ROOM)
@@ -320,12 +320,20 @@ class ObjectsByValue(Objects):
             return self._length.value
         return self._filled(length, fill)
 
+    def next_each(self, scan: str, length: int, count: int) -> Generator[bytes, None, None]:
+        for _ in range(count):
+            yield self.next(scan, length)
+
     def append(self, oid: str, data: bytes) -> None:
         x = self._oid(oid)
         if x is None:
             return super().append(oid, data)
         return self._run.call("append", lambda: f"append {oid} hex:..", ctypes.byref(x),
                               bytes(data), len(data), None)
+
+    def append_each(self, oid: str, pieces: Iterable[bytes]) -> None:
+        for piece in pieces:
+            self.append(oid, piece)
 
     def insert(self, oid: str, position: int, data: bytes) -> None:
         x = self._oid(oid)

@@ -6,14 +6,13 @@ import json
 import os
 import stat
 import subprocess
-import sys
 from contextlib import ExitStack
 from dataclasses import asdict, dataclass
 from typing import Callable, Iterable, Iterator, Optional, TypeVar
 
 from exsm.client import (
     PIECE, AnyPath, Broken, Ended, Locked, ProgramMissing, Refused, Store, find_program)
-from exsm.commands import status_of
+from exsm.commands import failed, interrupted
 from exsm.geometry import Geometry
 from exsm.leaves import Body, changes
 from exsm.lines import reason_of
@@ -39,8 +38,6 @@ WRITTEN = 128 << 20
 """Bytes of a new volume that are written with zeros, as `format` does, so that they have room."""
 
 MAP_HEAD = "# identifiers before and after exsm_move.py"
-INTERRUPTED = 130
-"""The exit status after Ctrl-C."""
 
 
 @dataclass
@@ -358,9 +355,7 @@ def run(source: str, target: str, size: Optional[int], wait: float, as_json: boo
     try:
         tell(*move(source, target, size, wait), as_json)
     except (Ended, Refused, Broken, Wrong, ProgramMissing, OSError) as fault:
-        print(f"exsm_move: {fault_text(fault, target)}", file=sys.stderr)
-        return status_of(fault) if isinstance(fault, Ended) else 1
+        return failed("exsm_move", fault_text(fault, target), fault)
     except KeyboardInterrupt:
-        print(f"exsm_move: interrupted; {target} is as it was", file=sys.stderr)
-        return INTERRUPTED
+        return interrupted("exsm_move", f"{target} is as it was")
     return 0

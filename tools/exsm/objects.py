@@ -1,7 +1,8 @@
 """What a store asks of objects, as lines of digits. A session that takes bytes has its own."""
 from __future__ import annotations
 
-from typing import Callable
+from contextlib import closing
+from typing import Callable, Generator, Iterable
 
 LINE_MOST = 1_048_576
 """Bytes of a line, without its line feed."""
@@ -21,6 +22,14 @@ Ask = Callable[[str], "list[str]"]
 Bind = Callable[[str], str]
 """Makes a version by a line to which a name is added, and gives its identifier."""
 
+AskEach = Callable[[Iterable[str]], "Generator[list[str], None, None]"]
+"""Sends lines, each made while the session is at the one before, and gives the words of replies."""
+
+
+def data_of(words: list[str]) -> bytes:
+    """The bytes that a reply gives: their number, and their digits where there are some."""
+    return bytes.fromhex(words[1]) if len(words) > 1 else b""
+
 
 class Objects:
     """Calls on objects, each a line."""
@@ -31,8 +40,8 @@ class Objects:
     read_piece = READ_PIECE
     """Bytes that a call asks for at most."""
 
-    def __init__(self, ask: Ask, bind: Bind) -> None:
-        self._ask, self._bind = ask, bind
+    def __init__(self, ask: Ask, bind: Bind, ask_each: AskEach) -> None:
+        self._ask, self._bind, self._ask_each = ask, bind, ask_each
 
     def create(self, file: str) -> str:
         """Makes an empty object in a file, and gives its identifier."""
@@ -56,12 +65,17 @@ class Objects:
 
     def read(self, oid: str, position: int, length: int) -> bytes:
         """Bytes from a position on."""
-        words = self._ask(f"read {oid} {position} {length}")
-        return bytes.fromhex(words[1]) if len(words) > 1 else b""
+        return data_of(self._ask(f"read {oid} {position} {length}"))
 
     def append(self, oid: str, data: bytes) -> None:
         """Puts bytes at the end."""
         self._ask(f"append {oid} hex:{data.hex()}")
+
+    def append_each(self, oid: str, pieces: Iterable[bytes]) -> None:
+        """Puts pieces at the end, each of them made while the session is at the one before."""
+        with closing(self._ask_each(f"append {oid} hex:{it.hex()}" for it in pieces)) as replies:
+            for _ in replies:
+                pass
 
     def insert(self, oid: str, position: int, data: bytes) -> None:
         """Puts bytes in before the one at a position."""
@@ -77,5 +91,9 @@ class Objects:
 
     def next(self, scan: str, length: int) -> bytes:
         """The next bytes of a scan."""
-        words = self._ask(f"next {scan} {length}")
-        return bytes.fromhex(words[1]) if len(words) > 1 else b""
+        return data_of(self._ask(f"next {scan} {length}"))
+
+    def next_each(self, scan: str, length: int, count: int) -> Generator[bytes, None, None]:
+        """The next pieces of a scan, so many; the session is at the one behind meanwhile."""
+        with closing(self._ask_each([f"next {scan} {length}"] * count)) as replies:
+            yield from map(data_of, replies)

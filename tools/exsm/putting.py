@@ -173,16 +173,37 @@ def tell(done: Iterable[Done]) -> None:
     print("".join(lines), end="", flush=True)
 
 
+class Cost(NamedTuple):
+    """What files that are put together take of a transaction."""
+
+    size: int = 0
+    updates: int = 0
+
+    @classmethod
+    def of(cls, it: Put) -> Cost:
+        """That of one file; of one whose size isn't known, more than a group may have."""
+        size = GROUP_MOST + 1 if it.size is None else it.size
+        return cls(size, PUT_UPDATES + -(-size // PIECE))
+
+    def with_other(self, other: Cost) -> Cost:
+        """Both together."""
+        return Cost(self.size + other.size, self.updates + other.updates)
+
+    def is_small(self) -> bool:
+        """Whether they go together."""
+        return self.size <= GROUP_MOST and self.updates <= UPDATES_MOST
+
+
 def groups(puts: list[Put]) -> Iterator[list[Put]]:
     """The files as they are put: small ones that follow each other together, others alone."""
     group: list[Put] = []
-    size = updates = 0
+    taken = Cost()
     for it in puts:
-        more = GROUP_MOST + 1 if it.size is None else it.size
-        size, updates = size + more, updates + PUT_UPDATES + -(-more // PIECE)
-        if group and (size > GROUP_MOST or updates > UPDATES_MOST):
+        cost = Cost.of(it)
+        taken = taken.with_other(cost)
+        if group and not taken.is_small():
             yield group
-            group, size, updates = [], more, PUT_UPDATES + -(-more // PIECE)
+            group, taken = [], cost
         group.append(it)
     if group:
         yield group
@@ -269,12 +290,6 @@ def put_together(names: Names, group: list[Put], replace: bool, progress: Progre
     return True
 
 
-def append(names: Names, oid: str, pieces: Iterable[bytes]) -> None:
-    """Puts pieces at the end of an object."""
-    for piece in pieces:
-        names.store.append(oid, piece)
-
-
 def put_at_once(names: Names, it: Put, replace: bool, pieces: Iterable[bytes],
                 read: Reading) -> str:
     """Stores a file in one transaction."""
@@ -293,7 +308,7 @@ def put_within(names: Names, it: Put, replace: bool, pieces: Iterable[bytes],
         names.store.delete(oid, 0, names.store.size(oid))
     else:
         oid = names.create()
-    append(names, oid, pieces)
+    names.store.append_each(oid, pieces)
     names.put_from(oid, it.source)
     names.name(it.name, oid, read.facts())
     return oid
@@ -309,7 +324,7 @@ def put_in_parts(names: Names, it: Put, replace: bool, pieces: Iterator[bytes],
         names.put_from(oid, it.source)
     while part := list(islice(pieces, 1)):
         with names.transaction():
-            append(names, oid, chain(part, islice(pieces, PUT_PIECES - 1)))
+            names.store.append_each(oid, chain(part, islice(pieces, PUT_PIECES - 1)))
     try:
         with names.transaction():
             if not replace:

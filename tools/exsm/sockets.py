@@ -10,7 +10,8 @@ import stat
 import time
 from typing import NoReturn
 
-from exsm.transport import WAIT_STEP, AnyPath, Cut, Ended, ended_by, status_words
+from exsm.transport import (
+    READ_AT_ONCE, WAIT_STEP, AnyPath, Cut, Ended, ended_by, status_words)
 
 PATH_MOST = 107
 """Bytes of the path of a socket."""
@@ -126,7 +127,7 @@ class SocketRun:
                     raise self._told(fault) from None
             time.sleep(WAIT_STEP)
         self._is_there, self._is_paused = True, False
-        self._replies = self._socket.makefile("rb")
+        self._replies = self._socket.makefile("rb", buffering=READ_AT_ONCE)
 
     def _told(self, fault: BaseException) -> BaseException:
         """A fault of the connecting, with the socket's name."""

@@ -25,6 +25,9 @@ USAGE, DISK_FAULT, BAD_VOLUME = 2, 5, 6
 WAIT_STEP = 0.05
 """Seconds between two tries to have a volume that another run has."""
 
+READ_AT_ONCE = 1 << 16
+"""Bytes of replies that are read at once. Long ones take three times as long in steps of 8 KiB."""
+
 AnyPath = Union[str, "os.PathLike[str]"]
 
 
@@ -130,7 +133,7 @@ class ProgramRun:
         self._said = tempfile.TemporaryFile()
         try:
             self._run = subprocess.Popen(
-                [program or find_program(), "run", os.fspath(volume)],
+                [program or find_program(), "run", os.fspath(volume)], bufsize=READ_AT_ONCE,
                 stdin=subprocess.PIPE, stdout=subprocess.PIPE, stderr=self._said)
         except BaseException:
             self._said.close()

@@ -11,6 +11,7 @@ from datetime import datetime, timezone
 from itertools import accumulate
 from typing import Callable, Iterator, NamedTuple, Optional
 
+from exsm.checking import counted
 from exsm.client import Broken, Ended, Locked, ProgramMissing, Refused, Store, leave_output
 from exsm.commands import CYAN, GREEN, RED, coloured, is_coloured, status_of, store_of
 from exsm.leaves import Body, Change, changes, trimmed
@@ -341,7 +342,7 @@ def gone_back(store: Store, shown: Shown, new: str, old: str) -> str:
         edit(store, record.oid, bodies[1], change_)
     taken = sum(it.end - it.start for it in found)
     put = sum(it.new_end - it.new_start for it in found)
-    return f"{record.oid}: {put:,} bytes for {taken:,}, in {len(found)} places"
+    return f"{record.oid}: {put:,} bytes for {taken:,}, in {counted(len(found), 'place')}"
 
 
 def edit(store: Store, oid: str, wanted: Body, change_: Change) -> None:

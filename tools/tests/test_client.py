@@ -8,7 +8,7 @@ import threading
 import time
 import unittest
 from pathlib import Path
-from typing import Callable
+from typing import Callable, Iterator
 
 from exsm.client import (LINE_MOST, PIECE, Broken, Denied, Ended, Locked, Missing, NoVolume,
                          Refused, Space, Store, is_answered)
@@ -160,6 +160,81 @@ class ClientTest(InFolder):
             self.assertEqual(store.read(oid, PIECE, 10), wanted[PIECE:PIECE + 10])
             self.assertEqual(store.stat(oid).size, store.size(oid))
             self.assertEqual(store.digest(oid), hashlib.sha256(wanted).digest())
+
+    def test_each(self) -> None:
+        """pieces that are made while the program is at others come in order, and go out so"""
+        data = random.Random(2).randbytes(2 * PIECE + 1000)
+        self.format(page_size=4096, pages=200, segs=2000, fan=169)
+        with Store("v") as store:
+            with store.transaction():
+                store.file("a")
+                oid = store.create("a")
+                store.append_each(oid, [])
+                store.append_each(oid, [b"ab", b"", data, b"c"])
+            got: list[bytes] = []
+            with store.scan(oid) as scan:
+                scan.each(got.append)
+            self.assertEqual(b"".join(got), b"ab" + data + b"c")
+            with store.transaction():
+                store.delete(oid, 0, store.size(oid))
+            with store.scan(oid) as scan:
+                scan.each(self.fail)
+
+    def test_each_fails(self) -> None:
+        """where a piece is refused, can't be made or isn't taken, the store goes on"""
+        self.format()
+
+        def made() -> Iterator[bytes]:
+            yield b"one"
+            raise GivenUp
+
+        def not_taken(piece: bytes) -> None:
+            raise GivenUp
+
+        with Store("v") as store:
+            with store.transaction():
+                store.file("a")
+                oid = store.create("a")
+                store.append(oid, b"abc")
+            with self.assertRaises(GivenUp), store.transaction():
+                store.append_each(oid, made())
+            with self.assertRaises(Refused) as caught, store.transaction():
+                store.append_each(oid, [b"one", bytes(500_000), b"two"])
+            self.assertEqual((caught.exception.name, caught.exception.line[:13]),
+                             ("full", f"append {oid} "[:13]))
+            self.assertRaises(Refused, store.append_each, oid, [b"one", b"two"])
+            with self.assertRaises(GivenUp), store.scan(oid) as scan:
+                scan.each(not_taken)
+            self.assertEqual((store.read(oid), store.log()), (b"abc", 1))
+
+    def test_order(self) -> None:
+        """a line is made before the reply to the one before it is read, and sent behind it"""
+        steps: list[str] = []
+
+        class Noting:
+            def send(self, line: bytes) -> None:
+                steps.append(f"send {line.decode()}")
+
+            def receive(self) -> str:
+                steps.append("receive")
+                return "ok append 1"
+
+            def end(self) -> None:
+                steps.append("end")
+
+            def goes_on(self) -> bool:
+                return True
+
+        def made() -> Iterator[bytes]:
+            for letter in (b"a", b"b"):
+                steps.append(f"make {letter.hex()}")
+                yield letter
+
+        with Store.over(Noting()) as store:
+            store.append_each("1.2.3", made())
+        self.assertEqual(steps, [
+            "make 61", "send append 1.2.3 hex:61", "make 62", "receive",
+            "send append 1.2.3 hex:62", "receive", "end"])
 
     def test_refusal(self) -> None:
         """a refused line raises, aborts its transaction, and the run goes on"""

@@ -68,8 +68,8 @@ class CopyingTest(InFolder):
                  ("v", "link", 1, "link: it is there already"),
                  ("v", "nowhere/copy", 1, "nowhere: No such file or directory"),
                  ("missing", "copy", 1, "missing: No such file or directory"),
-                 ("cut", "copy", 6, "cut: no volume, or a damaged one (part super), so no copy "
-                  "was made; `exsm_volume.py cut save FOLDER` saves what can be read")]
+                 ("cut", "copy", 6, "cut: no volume, or a damaged one (part super); "
+                  "`exsm_volume.py cut save FOLDER` saves what can be read; no copy was made")]
         names = sorted(os.listdir())
         for volume, copy, status, error in table:
             ran = self.tool("exsm_copy", volume, copy)

@@ -115,6 +115,20 @@ class PromisesTest(InToy):
                 self.assertEqual(ran.lines[:-1], told)
                 self.assertIn(f" {len(told)} names that are gone", ran.lines[-1])
 
+    def test_kept(self) -> None:
+        """an edit that the gate leaves out is in brackets in the map, and is held to its text"""
+        self.write("tools/edits/exsm_run/first_page_is_read.edit",
+                   "file: src/lib.rt\nold:     Page::of(number).read()\n"
+                   "new:     Page::of(1).read()\n")
+        self.assertEqual(self.script("promises.py").status, 0)
+        self.assertIn("| `run` | `exsm_run/src/lib.rt` | (`exsm_run/first_page_is_read`) | ",
+                      self.text("docs/MAP.md"))
+        self.change("crates/exsm_run/src/lib.rt", "Page::of(number).read()", "number")
+        ran = self.script("promises.py")
+        self.assertEqual((ran.status, ran.lines[:-1]), (1, [
+            "tools/edits/exsm_run/first_page_is_read.edit: its old text doesn't stand once in its "
+            "file"]))
+
     def test_lone(self) -> None:
         """an edit that no promised call leads to is told, and passes"""
         self.write("crates/exsm/must-fail/another_number.edit",

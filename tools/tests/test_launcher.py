@@ -413,6 +413,16 @@ class TryTest(OfCheckout):
                               f"{GONE}it ran on a copy of {word}{told} which is gone"])
         self.assertEqual(Path("v").read_bytes(), b"a volume")
 
+    def test_commands(self) -> None:
+        """each command that opens a volume has a copy of it, and input where it reads a script"""
+        for words, told in ((("run", "v"), b"line"), (("clients", "v"), b"line"),
+                            (("check", "v"), b""), (("dump", "v"), b""),
+                            (("gen", "v", "--seed", "1", "--count", "1"), b"")):
+            ran = self.tried(*words, given=b"line")
+            self.assertEqual((ran.status, ran.errors[-1]),
+                             (7, f"{GONE}it ran on a copy of v which is gone"))
+            self.assertTrue(ran.out.endswith(b"|" + told), ran.out)
+
     def test_names(self) -> None:
         """a name that means something to rt, or is a file of the crate, is another one there"""
         for name in ("program", "stdin", "a=b", "src/lib.rt"):

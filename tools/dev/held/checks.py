@@ -4,9 +4,9 @@ from __future__ import annotations
 import re
 from collections import defaultdict
 from pathlib import Path
-from typing import Iterator, Optional
+from typing import Iterator, NamedTuple, Optional
 
-from crate_code import Function, Sources, edits_of, has_file, text_of
+from crate_code import Function, Sources, edits_of, has_file, kept_edits_of, text_of
 
 # The most tests that are told of one call.
 TESTS_MOST = 4
@@ -14,8 +14,25 @@ TESTS_MOST = 4
 # A call: its crate and its full name.
 Call = tuple[str, str]
 Tests = dict[Call, list[str]]
-# An edit: its crate and its name.
-Edit = tuple[str, str]
+
+
+class Edit(NamedTuple):
+    """A must-fail edit of a crate, and whether it is one of those that the gate tries."""
+
+    crate: str
+    path: str
+    is_tried: bool
+
+    def told(self) -> str:
+        """Its name as the map has it, in brackets where the gate leaves it out."""
+        name = f"`{self.crate}/{Path(self.path).stem}`"
+        return name if self.is_tried else f"({name})"
+
+
+def edits_of_crate(crate: str) -> Iterator[Edit]:
+    """The must-fail edits of a crate, those that the gate tries first."""
+    yield from (Edit(crate, path, True) for path in edits_of(crate))
+    yield from (Edit(crate, path, False) for path in kept_edits_of(crate))
 
 
 def edited_functions(sources: Sources, crate: str, path: str) -> Optional[list[Function]]:
@@ -44,18 +61,18 @@ def edits_by_function(sources: Sources, crates: list[str]) -> dict[Call, list[Ed
     """For each call of some crates, the must-fail edits that change something it leads to."""
     found: dict[Call, list[Edit]] = defaultdict(list)
     for crate in crates:
-        for path in edits_of(crate):
-            for it in sources.leads_to(crates, edited_functions(sources, crate, path) or []):
-                found[it.crate, it.full()].append((crate, Path(path).stem))
+        for edit in edits_of_crate(crate):
+            for it in sources.leads_to(crates, edited_functions(sources, crate, edit.path) or []):
+                found[it.crate, it.full()].append(edit)
     return found
 
 
 def faults_of_edits(sources: Sources) -> Iterator[str]:
     """The must-fail edits that can't be applied."""
     for crate in sources.crates:
-        for path in edits_of(crate):
-            if edited_functions(sources, crate, path) is None:
-                yield f"{path}: its old text doesn't stand once in its file"
+        for edit in edits_of_crate(crate):
+            if edited_functions(sources, crate, edit.path) is None:
+                yield f"{edit.path}: its old text doesn't stand once in its file"
 
 
 def reached_by(test: Function, functions: list[Function]) -> tuple[set[str], set[str]]:

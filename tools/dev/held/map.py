@@ -6,19 +6,19 @@ goes with the calls that its function or a helper of it names; a stored program 
 from __future__ import annotations
 
 from collections import defaultdict
-from pathlib import Path
 
-from crate_code import Function, Sources, edits_of
-from held.checks import Call, Edit, Tests, edits_by_function, tests_by_name, told_tests
+from crate_code import Function, Sources
+from held.checks import (
+    Call, Edit, Tests, edits_by_function, edits_of_crate, tests_by_name, told_tests)
 from held.promises import Calls, Page, Row
 
 PAGE = "docs/MAP.md"
 HEAD = """# Map
 
 Each promise of [PROMISES.md](PROMISES.md) with the clauses that carry it, and each call with \
-the must-fail edits that change what it leads to and the tests that name it. A test of a call \
-above it stands as `through`. Written by `tools/dev/promises.py`, which fails where a name \
-is gone."""
+the must-fail edits that change what it leads to and the tests that name it. An edit that the \
+gate leaves out, of `tools/edits`, stands in brackets, and a test of a call above as `through`. \
+Written by `tools/dev/promises.py`, which fails where a name is gone."""
 
 
 def promise_row(row: Row, shown: Calls) -> str:
@@ -44,7 +44,7 @@ def call_row(sources: Sources, label: str, functions: list[Function],
     """A row of the second table, and the edits that it tells."""
     told = list(dict.fromkeys(
         edit for it in functions for edit in edits.get((it.crate, it.full()), [])))
-    of_edits = ", ".join(f"`{crate}/{edit}`" for crate, edit in told) or "none"
+    of_edits = ", ".join(it.told() for it in told) or "none"
     of_tests = ", ".join(told_tests(sources, tests, functions)) or "none"
     where = functions[0].path[len("crates/"):]
     return f"| `{label}` | `{where}` | {of_edits} | {of_tests} |", told
@@ -73,8 +73,8 @@ def the_map(page: Page) -> tuple[str, list[str]]:
     text, told = [HEAD], set[Edit]()
     for section in dict.fromkeys(it.section for it in page.rows):
         text += section_of(page, section, tests, told)
-    edits = [(crate, Path(path).stem) for crate in page.sources.crates for path in edits_of(crate)]
-    lone = [f"`{crate}/{name}`" for crate, name in edits if (crate, name) not in told]
+    edits = [edit for crate in page.sources.crates for edit in edits_of_crate(crate)]
+    lone = [edit.told() for edit in edits if edit not in told]
     if lone:
         text += ["", "## Edits that no call of that page leads to", "", ", ".join(lone)]
     return "\n".join(text) + "\n", lone
