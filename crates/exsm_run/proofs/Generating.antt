@@ -121,13 +121,17 @@ moments_on {a} {b} {c} {was} so_far only sent =
 
 stopped_in : {H : Type 0} {outside : H → Outside} {a b : Outside} {table : Table} {was : List ℕ} (seed count : ℕ) (first talk : Generated) (why : Stopped) → to_come first.lines ≡ generated seed count
     → TalkHeadline meant (volume_steps outside) IsFresh generated_talking first talk table was a b (Some why) → StopsUntold outside seed count table was a b (status_of 0 (Some why))
-stopped_in seed count first talk why script (inl s) = inl (Some why, refl, record {
-  had = exchanges s.rows;
-  asked = s.last;
-  heard = subst (λ (lines : List (List ℕ)). HeardFront lines (exchanges s.rows) s.last) script s.talked.heard;
-  answered = record { opening = s.opening; time = s.time; opened = s.opened; rows = s.rows; last = s.after; are = refl; trail = s.trail; stops = s.stops };
-  kept = s.kept;
-})
+stopped_in seed count first talk why script (inl s) = inl (
+  Some why,
+  refl,
+  record {
+    had = exchanges s.rows;
+    asked = s.last;
+    heard = subst (λ (lines : List (List ℕ)). HeardFront lines (exchanges s.rows) s.last) script s.talked.heard;
+    answered = record { opening = s.opening; time = s.time; opened = s.opened; rows = s.rows; last = s.after; are = refl; trail = s.trail; stops = s.stops };
+    kept = s.kept;
+  },
+)
 stopped_in seed count first talk why script (inr u) = inr (why, refl, u)
 
 pub gen_stopped : {H : Type 0} {outside : H → Outside} {a b : Outside} (seed count : ℕ) (first : Generated) (talk : Generated) (why : Stopped) → IsWorld a → to_come first.lines ≡ generated seed count → StopsGen why
@@ -204,13 +208,17 @@ told_of seed count first talk line world only sent script few none made (inr u) 
 -- All lines were answered, but no line tells of it.
 untold_of : {H : Type 0} {outside : H → Outside} {a b c : Outside} {table : Table} {was : List ℕ} (seed count : ℕ) (first talk : Generated) (s : Status) → IsWorld b → SinkOnly b c → b.sent ≡ Some was → to_come first.lines ≡ generated seed count
     → TalkHeadline meant (volume_steps outside) IsFresh generated_talking first talk table was a b None → StopsUntold outside seed count table was a c s
-untold_of seed count first talk status world only sent script (inl s) = inl (None, tt, record {
-  had = exchanges s.rows;
-  asked = None;
-  heard = heard_whole (subst (λ (lines : List (List ℕ)). Heard lines (exchanges s.rows)) script s.talked.1.heard);
-  answered = answered_on world only sent s;
-  kept = tt;
-})
+untold_of seed count first talk status world only sent script (inl s) = inl (
+  None,
+  tt,
+  record {
+    had = exchanges s.rows;
+    asked = None;
+    heard = heard_whole (subst (λ (lines : List (List ℕ)). Heard lines (exchanges s.rows)) script s.talked.1.heard);
+    answered = answered_on world only sent s;
+    kept = tt;
+  },
+)
 untold_of seed count first talk status world only sent script (inr u) = absurd (let is = u.is in cc)
 
 pub gen_sent : {H : Type 0} {outside : H → Outside} {a b c : Outside} (s : Status) (seed count : ℕ) (first talk : Generated) (line : List ℕ) → IsWorld b → Goes a b → to_come first.lines ≡ generated seed count
