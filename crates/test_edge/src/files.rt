@@ -14,8 +14,9 @@ const NOTHING: &[u8] = b"";
 
 const SCRIPT: &[u8] = b"log";
 
-/// What a file is called while it is made.
-const TEMPORARY: &str = ".exsm-new-0";
+/// What a file of another run is called that isn't whole yet, and one that is made beside it.
+const UNFINISHED: &str = ".exsm-new-0";
+const TEMPORARY: &str = ".exsm-new-1";
 
 // An output that was sent nothing yet.
 fn nothing_yet(alloc: Global) -> Vec<u8> {
@@ -43,6 +44,7 @@ fn a_file_that_is_not_there_is_a_fault(rt: HostRuntime) -> Result<(), Fail> {
 fn a_new_file_has_its_name_once_it_is_whole(rt: HostRuntime) -> Result<(), Fail> {
     let name = "file_host_made.tmp";
     let _ = fs::remove_file(&rt, name);
+    fs::write(&rt, UNFINISHED, b"of another run")?;
     let output = nothing_yet(rt.alloc());
     let mut host = FileHost::open(rt.alloc(), &rt, Some(name), Some(SIZE), SCRIPT, output)?;
     let mut bytes = [7u8; 4];
@@ -57,11 +59,13 @@ fn a_new_file_has_its_name_once_it_is_whole(rt: HostRuntime) -> Result<(), Fail>
     assert!(rt; host.sync() == Ok(()));
     assert!(rt; fs::exists(&rt, name)?);
     assert!(rt; !fs::exists(&rt, TEMPORARY)?);
+    assert!(rt; fs::exists(&rt, UNFINISHED)?);
 
     let mut taken = [0u8; 8];
     assert!(rt; host.take(&mut taken) == Ok(3));
     assert!(rt; host.take(&mut taken) == Ok(0));
     assert!(rt; host.put(b"ok log 0") == Ok(8));
+    fs::remove_file(&rt, UNFINISHED)?;
     fs::remove_file(&rt, name)?;
     Ok(())
 }
