@@ -390,7 +390,7 @@ uint32_t exsm_core_make(exsm_core *core, uint8_t *image, size_t image_len, const
 /* Closes it, and drops what is listed. */
 void exsm_core_close(exsm_core *core);
 
-/* Tells what is known of the last call that wasn't done. */
+/* Tells what is known of the last call with an image that wasn't done; zeros where each was. */
 void exsm_core_why(exsm_core *core, exsm_reason *out);
 
 /* How many calls are listed. */

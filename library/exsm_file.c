@@ -398,10 +398,10 @@ int begin_call(exsm *db, int is_used_well)
     return db->fd >= 0 ? EXSM_OK : leave(db, EXSM_DOWN);
 }
 
-/* Notes what the core knows besides of a call that it answered so. */
+/* Notes what the core knows besides of a call that it answered so. Of a number that a list hasn't it knows nothing, and would tell of an earlier call. */
 static void ask_why(exsm *db, uint32_t answer)
 {
-    if (answer != EXSM_OK)
+    if (answer != EXSM_OK && answer != EXSM_MISUSE)
         exsm_core_why(&db->core, &db->why.told);
 }
 

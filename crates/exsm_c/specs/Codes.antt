@@ -1,5 +1,5 @@
 -- What an export answers.
-use Rattle.std.specs.Prelude.{ℕ, List, length, nat_le, nat_lt, Result, Ok, Err, if◌then◌else◌}
+use Rattle.std.specs.Prelude.{ℕ, List, length, nat_le, nat_lt, Option, Some, None, Result, Ok, Err, if◌then◌else◌}
 use Rattle.table_model.specs.declared.reply.Refusal.{Refusal}
 use Rattle.table_model.specs.declared.reply.Refusal.TheVariants as refusal
 use Rattle.session_views.specs.declared.stop.Stop.{Stop}
@@ -93,3 +93,8 @@ code_at items i = if nat_lt i (length items) then 0 else 51
 -- the code of so many bytes that are to go where there is room for so many
 abbrev pub code_of_room : ℕ → ℕ → ℕ
 code_of_room count room = if nat_le count room then 0 else 50
+
+-- the code of a name that is asked for by its number, and is to go where there is room for so many bytes
+abbrev pub code_of_name : Option (List ℕ) → ℕ → ℕ
+code_of_name None room = 51
+code_of_name (Some name) room = code_of_room (length name) room

@@ -2,8 +2,9 @@
 ghost use Rattle.std.specs.Prelude.{◌≡◌};
 ghost use Rattle.exsm_c.specs.Codes.{number_of_part};
 ghost use Rattle.exsm_c.specs.Most.{most_of};
+ghost use Rattle.exsm_c.specs.Whys.{number_of_area};
 
-use crate::codes::code_of;
+use crate::codes::{MISUSE, NO_MEMORY, OK, code_of_stop, number_of};
 use ex_base::{Area, Oid};
 use session_views::{Part, Stop};
 use table_model::{Refusal, Subject};
@@ -165,8 +166,13 @@ pub struct Why {
 }
 
 impl Why {
+    ghost use Rattle.std.specs.Prelude.{◌≡◌};
+    ghost use Rattle.exsm_c.specs.Whys.{code_alone, refusal_told, stop_told, why_told};
+
     // A code with nothing besides.
-    fn code(code: u32) -> Why {
+    fn code(code: u32) -> Why
+        ensures { result ≡ code_alone code }
+    {
         Why {
             code,
             scans: false,
@@ -187,52 +193,69 @@ impl Why {
     }
 
     /// Why a call wasn't done: one that is none has the code 0.
-    pub(crate) fn of(why: Option<NotDone>) -> Why {
+    pub(crate) fn of(why: Option<NotDone>) -> Why
+        ensures { result ≡ why_told why }
+    {
         match why {
-            None => Why::code(0),
-            Some(NotDone::Misuse) => Why::code(code_of(NotDone::Misuse)),
-            Some(NotDone::Refused(why)) => Why::refusal(code_of(NotDone::Refused(why)), why),
-            Some(NotDone::Untold) => Why::code(code_of(NotDone::Untold)),
-            Some(NotDone::Stopped(stop)) => Why::stop(code_of(NotDone::Stopped(stop)), stop),
+            None => Why::code(OK),
+            Some(NotDone::Misuse) => Why::code(MISUSE),
+            Some(NotDone::Refused(why)) => Why::refusal(why),
+            Some(NotDone::Stopped(stop)) => Why::stop(stop),
+            Some(NotDone::Untold) => Why::code(NO_MEMORY),
         }
     }
 
-    // Why a call was refused, with this code.
-    fn refusal(code: u32, why: Refusal) -> Why {
-        let mut told = Why::code(code);
+    // Why a call was refused.
+    fn refusal(why: Refusal) -> Why
+        ensures { result ≡ refusal_told why }
+    {
+        let told = Why::code(number_of(why));
         match why {
-            Refusal::TooMany { scans } => told.scans = scans,
-            Refusal::LongTxn { updates, touched } => {
-                told.updates = updates;
-                told.touched = touched;
-            }
-            Refusal::Full { area, need, free } => {
-                told.area = match area {
-                    Area::Page => 0,
-                    Area::Segment => 1,
-                };
-                told.need = need;
-                told.free = free;
-            }
-            Refusal::Branches { derived } => told.derived = derived,
-            _ => {}
+            Refusal::TooMany { scans } => Why { scans, ..told },
+            Refusal::LongTxn { updates, touched } => Why {
+                updates,
+                touched,
+                ..told
+            },
+            Refusal::Full { area, need, free } => Why {
+                area: number_of_area(area),
+                need,
+                free,
+                ..told
+            },
+            Refusal::Branches { derived } => Why { derived, ..told },
+            _ => told,
         }
-        told
     }
 
-    // Why the session stopped, with this code.
-    fn stop(code: u32, stop: Stop) -> Why {
-        let mut told = Why::code(code);
-        if let Stop::Damaged { page, want, got } = stop {
-            told.page = page.0;
-            told.want_kind = want.kind;
-            told.want_level = want.level;
-            told.want_total = want.total;
-            told.got_kind = got.kind;
-            told.got_level = got.level;
-            told.got_total = got.total;
+    // Why the session stopped.
+    fn stop(stop: Stop) -> Why
+        ensures { result ≡ stop_told stop }
+    {
+        let told = Why::code(code_of_stop(stop));
+        match stop {
+            Stop::Damaged { page, want, got } => Why {
+                page: page.0,
+                want_kind: want.kind,
+                want_level: want.level,
+                got_kind: got.kind,
+                got_level: got.level,
+                want_total: want.total,
+                got_total: got.total,
+                ..told
+            },
+            _ => told,
         }
-        told
+    }
+}
+
+// The number of an area.
+fn number_of_area(area: Area) -> u8
+    ensures { result ≡ number_of_area area }
+{
+    match area {
+        Area::Page => 0,
+        Area::Segment => 1,
     }
 }
 

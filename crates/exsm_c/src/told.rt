@@ -1,9 +1,9 @@
 //! What is handed out of a reply, and the code that a call is answered.
-ghost use Rattle.std.specs.Prelude.{◌≡◌, ◌≢◌, Err, IfOk, Some, length, min, option_map};
+ghost use Rattle.std.specs.Prelude.{◌≡◌, ◌≢◌, IfOk, length, min, option_map};
 ghost use Rattle.exsm_c.specs.Codes.{code_at, code_of, code_of_fault, code_of_room, number_of_part};
 ghost use Rattle.session_views.specs.declared.opener.OpenFault.TheVariants.{BadVolume};
 ghost use Rattle.session_views.specs.declared.part.Part.{Part};
-ghost use Rattle.volume_calls.specs.declared.volume.NotDone.{NotDone};
+ghost use Rattle.exsm_c.specs.Whys.{why_after};
 ghost use Rattle.exsm_c.specs.Told.{BeginsWith, TellsAt, bytes_in, bytes_to_write, call_of, counts_of, group_name, identifier_in, names_in, number_in, oids_in, records_in, shape_in, size_in, units_in, wanted};
 
 use crate::codes::{BAD_VOLUME, MISUSE, NO_MEMORY, OK, ROOM, code_of};
@@ -173,7 +173,7 @@ pub(crate) fn put_front(out: &mut [u8], bytes: &[u8]) -> usize
 
 /// Why the last call that wasn't done wasn't, behind this one.
 pub(crate) fn why_of<T>(told: &Result<T, NotDone>, before: Option<NotDone>) -> Option<NotDone>
-    ensures why { (why : NotDone) → told.now ≡ Err why → result ≡ Some why }
+    ensures { result ≡ why_after told.now before }
 {
     match told {
         Ok(_) => before,

@@ -7,6 +7,7 @@ ghost use Rattle.exsm_c.specs.Codes.{code_of_room, number_of_part};
 ghost use Rattle.exsm_c.specs.declared.open.Open.{Open};
 ghost use Rattle.exsm_c.specs.Answers.{AnswersLine, HasText, HasTextOf, HasVolume, IsOpenedOn};
 ghost use Rattle.exsm_c.specs.Owned.{IsLentBy, IsOpen};
+ghost use Rattle.exsm_c.specs.Whys.{why_told};
 ghost use Rattle.lent_host.specs.Lent.{IsLent};
 ghost use Rattle.volume_calls.specs.Lines.{line_of};
 
@@ -175,11 +176,12 @@ pub extern "C" fn exsm_core_text(alloc: Global, handle: &mut Handle, out: &mut [
     code
 }
 
-/// Tells why the last call that wasn't done wasn't.
+/// Tells why the last call with an image that wasn't done wasn't: zeros where each was.
 #[unsafe(no_mangle)]
 pub extern "C" fn exsm_core_why(alloc: Global, handle: &mut Handle, why: &mut Why)
     requires { IsOpen handle.old.value }
     ensures kept { handle.new.value ≡ handle.old.value }
+    ensures told { (had : Open) → handle.old.value ≡ Some had → why.new ≡ why_told had.why }
 {
     let open = take(alloc, handle);
     *why = Why::of(open.why);
