@@ -1,5 +1,6 @@
 -- What a load wrote may be committed, and is the table of the stream then.
-use Rattle.std.proofs.Common.{◌≡◌, ◌⊎◌, inl, inr, ℕ, List, [], ◌∷◌, ◌++◌, Some, refl, sym, ap, subst, ◌∙◌}
+use Rattle.std.proofs.Common.{◌≡◌, ◌⊎◌, ◌↔◌, inl, inr, ℕ, true, nat_eq, List, [], ◌∷◌, ◌++◌, Some, None, refl, sym, ap, subst, ◌∙◌}
+use Rattle.std.specs.Map.{lookup}
 use Rattle.std.specs.Prelude.{Contains}
 use Rattle.ex_base.specs.declared.geometry.Geometry.{Geometry}
 use Rattle.ex_base.specs.declared.names.OpNote.{OpNote}
@@ -7,21 +8,23 @@ use Rattle.disk_model.specs.Outside.{Outside}
 use Rattle.op_log.specs.declared.record.LogRecord.{LogRecord}
 use Rattle.op_log.specs.Decoding.{NumberFollows, last_number}
 use Rattle.op_log.specs.State.{LogState}
+use Rattle.commits.proofs.Reached.{reach_behind, same_reach}
 use Rattle.table_model.specs.declared.table.Table.{Table}
 use Rattle.table_model.specs.Tables.{empty_table}
 use Rattle.version_lists.proofs.Lists.{contains_has}
 use Rattle.volume_model.specs.Committed.{CommittedAs, IsOverlayOf, MayCommit, StandsForEither, with_records}
 use Rattle.volume_model.specs.CrashImage.{agrees_stands}
 use Rattle.volume_model.specs.Parts.{StandsFor, SuperOf}
-use Rattle.volume_model.specs.SameVolume.{parts_kept, table_kept}
+use Rattle.volume_model.specs.SameVolume.{parts_kept, reach_kept, table_kept}
 use Rattle.volume_model.specs.Shown.{PageRow, WorkingRow, working_units}
-use Rattle.volume_model.specs.Volume.{Decoded, Volume, file_pages, table_of, units_of}
+use Rattle.volume_model.specs.Volume.{Decoded, Volume, file_pages, reach_of, table_of, units_of}
 use Rattle.volume_port.specs.declared.state.VolumeState.{VolumeState}
 use Rattle.volume_port.specs.State.{IsAtRest}
-use Rattle.history_model.specs.Dumps.{IsDump}
-use Rattle.history_commits.specs.Loads.{HoldsDump, IsDumpImage, LoadsAs, units_loaded}
+use Rattle.history_model.specs.Dumps.{IsDump, IsHistoryOf}
+use Rattle.history_model.specs.Stream.{stream_of}
+use Rattle.history_commits.specs.Loads.{HoldsDump, ImageReaches, IsDumpImage, LoadsAs, units_loaded}
 use Rattle.history_commits.proofs.EmptyVolumes.{no_files}
-use Rattle.history_commits.proofs.NewCatalogs.{all_kept, catalog_row, none_gone}
+use Rattle.history_commits.proofs.NewCatalogs.{all_kept, catalog_row, none_gone, same_units}
 
 module _ (w : Outside) (p : VolumeState) (d : Decoded) (image : List ℕ) (rests : IsAtRest w p d image) (empty : table_of (units_of d image) d.volume ≡ empty_table) where
   no_page : (page : ℕ) → Contains (file_pages d.volume) page → ⊥
@@ -36,10 +39,10 @@ module _ (w : Outside) (p : VolumeState) (d : Decoded) (image : List ℕ) (rests
   pub was_empty : (e : List ℕ) → w.images e → StandsFor e empty_table
   was_empty e may = subst (StandsFor e) empty (agrees_stands image e d rests.committed.parts (rests.committed.durable e may))
 
-  pub loads_there : (stream page : List ℕ) (last : ℕ) → LoadsAs p.geometry image stream page last → LoadsAs d.geometry image stream page last
-  loads_there stream page last loads = subst (λ (g : Geometry). LoadsAs g image stream page last) (sym rests.geometry) loads
+  pub loads_there : (stream page : List ℕ) (last segs : ℕ) → LoadsAs p.geometry image stream page last segs → LoadsAs d.geometry image stream page last segs
+  loads_there stream page last segs loads = subst (λ (g : Geometry). LoadsAs g image stream page last segs) (sym rests.geometry) loads
 
-  module _ (stream page : List ℕ) (last : ℕ) (loads : LoadsAs d.geometry image stream page last) where
+  module _ (stream page : List ℕ) (last segs : ℕ) (loads : LoadsAs d.geometry image stream page last segs) where
     abbrev v : Volume
     v = loads.volume
 
@@ -60,8 +63,12 @@ module _ (w : Outside) (p : VolumeState) (d : Decoded) (image : List ℕ) (rests
     made_is : table_of (working_units d image (catalog_row page)) v ≡ made
     made_is = table_kept (units_loaded d.geometry image page) (working_units d image (catalog_row page)) v (all_kept d image page rests.none v)
 
-    dump_there : IsDump stream p.geometry made
-    dump_there = subst (λ (g : Geometry). IsDump stream g made) rests.geometry loads.dump
+    abbrev dump_there : IsDump stream p.geometry made
+    dump_there = record {
+      history = loads.dump.history;
+      spelled = loads.dump.spelled ∙ ap (λ (g : Geometry). stream_of g loads.dump.history) rests.geometry;
+      of = subst (λ (g : Geometry). IsHistoryOf g loads.dump.history made) rests.geometry loads.dump.of;
+    }
 
     -- where the catalog alone is touched
     module _ (rows : List WorkingRow) (touched : rows ≡ catalog_row page) where
@@ -71,18 +78,44 @@ module _ (w : Outside) (p : VolumeState) (d : Decoded) (image : List ℕ) (rests
       working_is : table_of (working_units d image rows) v ≡ made
       working_is = ap (λ (rs : List WorkingRow). table_of (working_units d image rs) v) touched ∙ made_is
 
+      -- what is committed reaches what was loaded
+      module _ (after : Outside) (notes : List OpNote) (later : List ℕ) (log : LogState) (overlay : List PageRow) (done : CommittedAs d image rows last notes v after.images later log overlay) where
+        abbrev now : Decoded
+        now = with_records d (done.earlier ++ done.made ∷ []) v
+
+        unit_stays : (unit : ℕ) → Contains (reach_of (units_loaded d.geometry image page) v) unit → units_of now later unit ≡ units_loaded d.geometry image page unit
+        unit_stays unit there =
+            done.pages unit (reach_behind d.geometry (units_loaded d.geometry image page) v unit loads.parts there) (λ stale. none_gone page unit (subst (λ (rs : List WorkingRow). lookup (nat_eq unit) rs ≡ Some None) touched stale.0))
+            ∙ ap (λ (rs : List WorkingRow). working_units d image rs unit) touched ∙ same_units d image page rests.none unit
+
+        reach_stays : reach_of (units_of now later) v ≡ reach_of (units_loaded d.geometry image page) v
+        reach_stays = reach_kept (units_loaded d.geometry image page) (units_of now later) v (same_reach (units_loaded d.geometry image page) (units_of now later) v unit_stays)
+
+        image_reaches : ImageReaches later segs
+        image_reaches = record {
+          decoded = now;
+          parts = done.committed.parts;
+          reaches = record {
+            used = loads.reaches.used;
+            each = λ unit. subst (λ (units : List ℕ). (loads.reaches.used unit ≡ true) ↔ Contains units unit) (sym reach_stays) (loads.reaches.each unit);
+            segs_are = loads.reaches.segs_are;
+          };
+        }
+
       pub holds_dump : (after : Outside) (notes : List OpNote) (later : List ℕ) (log : LogState) (overlay : List PageRow) → after.disk ≡ Some later
-          → CommittedAs d image rows last notes v after.images later log overlay → HoldsDump after p.geometry stream
+          → CommittedAs d image rows last notes v after.images later log overlay → HoldsDump after p.geometry stream segs
       holds_dump after notes later log overlay holds done =
           let now = with_records d (done.earlier ++ done.made ∷ []) v in
           let table_is : table_of (units_of now later) v ≡ made = done.table ∙ working_is in
           record {
             table = made;
             dump = dump_there;
+            leaves = loads.leaves;
             image = later;
             holds = holds;
             super = subst (SuperOf later) rests.geometry done.committed.parts.0;
             stands = record { decoded = now; parts = done.committed.parts; same = sym table_is };
+            reaches = image_reaches after notes later log overlay done;
             left = λ e may. subst (StandsFor e) table_is (agrees_stands later e now done.committed.parts (done.committed.durable e may));
           }
 

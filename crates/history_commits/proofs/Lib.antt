@@ -1,3 +1,4 @@
 pub mod EmptyVolumes
+pub mod EmptyCatalogs
 pub mod NewCatalogs
 pub mod CommittedLoads

@@ -45,18 +45,20 @@ pub fn commit_loaded<D: Disk>(
     // Without memory nothing was called.
     ensures memory { result ≡ Err CommitFault.Memory → disk.new ≡ disk.old }
 
-    // The disk holds a table of which the stream is a dump, whatever a crash leaves.
+    // The disk holds a table of which the stream is a dump, whatever a crash leaves, in a volume of as many units of the segment area as leaves came.
     ensures done { OnOk result ((d : Decoded) (image stream : List ℕ)
         → IsAtRest (D.outside disk.old) volume d image
         → table_of (units_of d image) d.volume ≡ empty_table
         → LoadsAs volume.geometry image stream loaded.now.catalog.items loaded.now.last
-        → HoldsDump (D.outside disk.new) volume.geometry stream) }
+        loaded.now.leaves
+        → HoldsDump (D.outside disk.new) volume.geometry stream loaded.now.leaves) }
 
     // A crash at any moment leaves the empty table or such a one.
     ensures any_moment { (d : Decoded) (image stream : List ℕ)
         → IsAtRest (D.outside disk.old) volume d image
         → table_of (units_of d image) d.volume ≡ empty_table
         → LoadsAs volume.geometry image stream loaded.now.catalog.items loaded.now.last
+        loaded.now.leaves
         → Leaves (D.outside disk.old) (D.outside disk.new)
         (λ left. StandsFor left empty_table ⊎ IsDumpImage volume.geometry stream left) }
 {

@@ -1,8 +1,15 @@
 pub mod ItemNumbers
+pub mod TreePieces
 pub mod StandingTrees
 pub mod StandingFiles
 pub mod StandingPieces
+pub mod SegmentsInUse
 pub mod OtherUnits
 pub mod OneContent
 pub mod WrittenVolumes
 pub mod DumpTrees
+pub mod DumpVersions
+pub mod DumpLinks
+pub mod ObjectIndex
+pub mod DumpObjects
+pub mod DumpHolds

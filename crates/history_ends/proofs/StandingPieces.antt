@@ -29,11 +29,11 @@ use Rattle.history_volumes.specs.Transcribed.{piece_place}
 use Rattle.history_volumes.proofs.Named.{large_content}
 use Rattle.history_volumes.proofs.Numbers.{found_zip, has_second, numbered_from, second_has, zip_found}
 use Rattle.history_volumes.proofs.OneObject.{of_one_object}
-use Rattle.history_volumes.proofs.Transcribing.{child_of, pairs_are}
 use Rattle.history_ends.specs.Pieces.{IsPieceOf}
-use Rattle.history_ends.specs.Placed.{StandsAs}
+use Rattle.history_ends.specs.Placed.{StandsAs, tree_units}
 use Rattle.history_ends.proofs.StandingFiles.{files_are}
 use Rattle.history_ends.proofs.StandingTrees.{RootStands, version_stands}
+use Rattle.history_ends.proofs.TreePieces.{of_root}
 
 -- a root on the volume is that of a version, with its own page's number
 pub record IsOwnRoot (leaf node : ℕ → ℕ) (content : Content) (root : Root) : Type 0 where
@@ -49,21 +49,6 @@ module _ (g : Geometry) (records : List LogRecord) (units : Units) (v : Volume) 
     (items : AreItems g h) (lengths : AreAsNamed h 1 h.leaves) (on : StandsAs g units v h leaf node) where
   abbrev Stands : Root → Type 0
   Stands root = RootStands g records units v h leaf node parts items lengths on root
-
-  -- ---- the pieces of a tree are those of the history
-
-  of_tree : (l number n : ℕ) (piece : Piece) → IsUnder h l number n → Has (pieces_under h l number) piece → IsPieceOf h piece
-  of_tree zero number n piece is (inl e) = subst (IsPieceOf h) e (is.0, is.1)
-  of_tree zero number n piece is (inr none) = absurd none
-  of_tree (suc l) number n piece is (inl e) = subst (IsPieceOf h) e (is.0, is.1)
-  of_tree (suc l) number n piece is (inr more) =
-      let from = has_flat_from (λ (pair : Pair). pieces_under h l pair.page.0) (pairs_of h number) piece more in
-      let child = child_of (IsUnder h l) 0 is.0.pairs is.4 from.0 (subst (λ (ps : List Pair). Has ps from.0) (pairs_are g h units leaf node on.transcribed number is.0 is.1) from.1) in
-      of_tree l from.0.page.0 child.0 piece child.1 from.2
-
-  of_root : (height size : ℕ) (page : Option PageNo) (piece : Piece) → IsRooted g h height size page → Has (pieces_rooted h height page) piece → IsPieceOf h piece
-  of_root height size None piece rooted there = absurd there
-  of_root height size (Some number) piece rooted there = of_tree height number.0 size piece rooted.0 there
 
   -- ---- versions and records
 
@@ -95,6 +80,15 @@ module _ (g : Geometry) (records : List LogRecord) (units : Units) (v : Volume) 
         tree = version_stands g records units v h leaf node parts items lengths on own.0 stored.0 is.own among stored.1 is.large (large ∙ ap Large (sym is.placed));
       }
 
+  -- A unit of a tree is that of a piece.
+  pub piece_there : (unit : ℕ) → Has (tree_units units v) unit → (piece : Piece) × IsPieceOf h piece × (piece_place leaf node piece ≡ unit)
+  piece_there unit there =
+      let found = has_flat_from (root_units units) (roots_in (stored_in v)) unit there in
+      let w = of_version found.0 found.1 in
+      let own = subst (λ (us : List ℕ). Has us unit) w.tree.units_are (subst (λ (r : Root). Has (root_units units r) unit) (sym w.placed) found.2) in
+      let from = has_map_from (piece_place leaf node) (pieces_rooted h w.own.height w.own.page) unit own in
+      (from.0, of_root g h units leaf node on.transcribed w.own.height w.own.size w.own.page from.0 w.tree.rooted from.1, from.2)
+
   -- the record of a version
   record OfRecord (w : HistoryVersion) : Type 0 where
     file : FileContent
@@ -124,7 +118,7 @@ module _ (g : Geometry) (records : List LogRecord) (units : Units) (v : Volume) 
       let w = of_version found.0 found.1 in
       let unit = subst (λ (us : List ℕ). Has us (piece_place leaf node piece)) w.tree.units_are (subst (λ (r : Root). Has (root_units units r) (piece_place leaf node piece)) (sym w.placed) found.2) in
       let from = has_map_from (piece_place leaf node) (pieces_rooted h w.own.height w.own.page) (piece_place leaf node piece) unit in
-      let same = on.apart from.0 piece (of_root w.own.height w.own.size w.own.page from.0 w.tree.rooted from.1) is from.2 in
+      let same = on.apart from.0 piece (of_root g h units leaf node on.transcribed w.own.height w.own.size w.own.page from.0 w.tree.rooted from.1) is from.2 in
       let there = subst (λ (c : Content). Has (pieces_of h c) piece) (sym w.large) (subst (Has (pieces_rooted h w.own.height w.own.page)) same from.1) in
       (w.version, has_contains (all_versions h) w.version w.there, has_contains (pieces_of h w.version.content) piece there)
 

@@ -33,11 +33,13 @@ use Rattle.history_model.specs.Stream.{stream_of}
 use Rattle.history_model.specs.Trees.{LeafPiece, NodePiece, Piece}
 use Rattle.history_volumes.specs.Histories.{IsFileOn}
 use Rattle.history_volumes.specs.Transcribed.{IsLeafAt, IsNodeAt, paired, piece_place}
+use Rattle.history_ends.specs.Laws.{LieLowest}
 use Rattle.history_ends.specs.Pieces.{IsPieceOf}
 use Rattle.history_ends.specs.Placed.{StandsAs, tree_units}
 use Rattle.history_ends.specs.Written.{HoldsPieces, IsWrittenAt}
 use Rattle.history_ends.proofs.OneContent.{HasRecords, one_content}
 use Rattle.history_ends.proofs.OtherUnits.{apart_from_catalog, same_trees, still_hold}
+use Rattle.history_ends.proofs.SegmentsInUse.{reaches_leaves}
 use Rattle.history_ends.proofs.StandingPieces.{of_table}
 
 -- a leaf lies on the disk
@@ -48,7 +50,7 @@ leaf_inside g image page j large lt is =
 
 module _ (g : Geometry) (image page : List ℕ) (c : Catalog) (h : History) (leaf node : ℕ → ℕ) (large : volume_bytes g ≤ length image) (catalog : CatalogOf page c) (size : length page ≡ g.page_size)
     (next_unique : h.next_unique ≡ c.next_unique) (last : h.last ≡ c.last) (items : AreItems g h) (lengths : AreAsNamed h 1 h.leaves) (pages : h.pages ≡ pages_needed g.page_size h)
-    (written : IsWrittenAt g (home g image) h c.entries leaf node) (found : HoldsPieces g (home g image) c h leaf node) where
+    (written : IsWrittenAt g (home g image) h c.entries leaf node) (found : HoldsPieces g (home g image) c h leaf node) (lowest : LieLowest g h leaf) where
   abbrev old : Units
   old = home g image
 
@@ -117,10 +119,12 @@ module _ (g : Geometry) (image page : List ℕ) (c : Catalog) (h : History) (lea
     last = last;
   }
 
-  pub loads : LoadsAs g image (stream_of g h) page c.last
+  pub loads : LoadsAs g image (stream_of g h) page c.last (length h.leaves)
   loads = record {
     volume = v;
     parts = parts;
     last_is = refl;
     dump = record { history = h; spelled = refl; of = of_table g [] new v h leaf node parts items lengths stands rules pages };
+    leaves = refl;
+    reaches = reaches_leaves g [] new v h leaf node parts items lengths stands lowest;
   }

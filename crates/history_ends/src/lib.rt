@@ -2,7 +2,7 @@
 //! their laws alone.
 #![tactic(auto)]
 
-ghost use Rattle.history_ends.specs.Laws.{StandingHistories, WholeTrees, WrittenLoads};
+ghost use Rattle.history_ends.specs.Laws.{DumpsHold, StandingHistories, WholeTrees, WrittenLoads};
 
 /// A history that stands as a volume is a history of the volume's table. It does nothing: its contract is the law.
 pub fn a_history_that_stands_is_of_its_table()
@@ -17,4 +17,9 @@ pub fn what_was_written_loads()
 /// Where a dump was written, each of its trees is whole. It does nothing: its contract is the law.
 pub fn the_trees_of_a_dump_are_whole()
     ensures { WholeTrees }
+{}
+
+/// Where a dump was written with its links, and all lies apart, its volume holds there. It does nothing: its contract is the law.
+pub fn a_dump_holds_where_it_was_written()
+    ensures { DumpsHold }
 {}

@@ -1,5 +1,5 @@
 -- Records that are laid on pages.
-use Rattle.std.proofs.Common.{◌≡◌, ◌≤◌, ◌<◌, ◌+◌, ◌-◌, ◌*◌, ℕ, zero, suc, List, [], ◌∷◌, ◌++◌, length, map, Some, None, inl, refl, sym, ap, subst, ◌∙◌, arith, append_assoc, lt-ltb}
+use Rattle.std.proofs.Common.{◌≡◌, ◌≤◌, ◌<◌, ◌+◌, ◌-◌, ◌*◌, ℕ, zero, suc, List, [], ◌∷◌, ◌++◌, length, map, Some, None, inl, inr, refl, sym, ap, subst, ◌∙◌, arith, append_assoc, lt-ltb}
 use Rattle.std.specs.Prelude.{Bool, IsTrue, ◌↔◌, false, if◌then◌else◌, nat_le, nat_lt, true}
 use Rattle.std.proofs.lemmas.Bool.Decides.{nat_tests}
 use Rattle.std.proofs.lemmas.Option.{same_Some}
@@ -100,9 +100,18 @@ body_put was page body slot is place placed =
       last = ap suc at ∙ sym one.0 ∙ sym (ap length slots);
     }
 
+slot_last : (slots : List Slot) (slot : Slot) → with_slot slots (length slots) slot ≡ slots ++ slot ∷ []
+slot_last [] slot = refl
+slot_last (s ∷ slots) slot = ap (λ (rest : List Slot). s ∷ rest) (slot_last slots slot)
+
+pub put_slots : (was page body : List ℕ) (slot : ℕ) → IsDense was → Some slot ≡ place_for (length was) (slots_of was) (length body) → SlotsOf page (with_slots (page_on was) (with_slot (slots_of was) slot (Some body))) → slots_of page ≡ slots_of was ++ Some body ∷ []
+put_slots was page body slot is place placed =
+    let at : slot ≡ length (slots_of was) = slot_given (length was) (slots_of was) (length body) slot place ∙ is.dense in
+    slots_are page (with_slots (page_on was) (with_slot (slots_of was) slot (Some body))) placed ∙ ap (λ (n : ℕ). with_slot (slots_of was) n (Some body)) at ∙ slot_last (slots_of was) (Some body)
+
 -- ---- pages in a row
 
-pages_stay : (units later : Units) (file_no page : ℕ) (pages : List (List Record)) → ((p : ℕ) → page ≤ p → p < page + length pages → later p ≡ units p) → ArePagesOn units file_no page pages → ArePagesOn later file_no page pages
+pub pages_stay : (units later : Units) (file_no page : ℕ) (pages : List (List Record)) → ((p : ℕ) → page ≤ p → p < page + length pages → later p ≡ units p) → ArePagesOn units file_no page pages → ArePagesOn later file_no page pages
 pages_stay units later file_no page [] same are = tt
 pages_stay units later file_no page (records ∷ pages) same are = (
   subst (λ (b : List ℕ). SlotsOf b (page_of file_no records)) (sym (same page (omega arith) (omega arith))) are.0,
@@ -154,6 +163,8 @@ page_left g a b old new world large wrote long behind there some count number fi
         pages = subst (λ (n : ℕ). ArePagesOn (home g later) n new.first (laid.full ++ laid.last ∷ [])) (sym number) (subst (λ (n : ℕ). ArePagesOn (home g later) old.file_no n (laid.full ++ laid.last ∷ [])) (sym first) more);
         at_hand = subst (λ (n : ℕ). SlotsOf new.page.items (page_of n [])) (sym number) empty;
       },
+      refl,
+      refl,
     )
   where
     length_more : {A : Type 0} (xs : List A) (x : A) → length (xs ++ x ∷ []) ≡ suc (length xs)
@@ -162,7 +173,10 @@ page_left g a b old new world large wrote long behind there some count number fi
 
 -- ---- one more version
 
-pub laid_more : (units : Units) (old new : FilePages) (records : List Record) (r : Record) → AreLaid units old records → new.written ≡ old.written → new.file_no ≡ old.file_no → new.first ≡ old.first
+pub rows_left : (full was : List (List Record)) (last old : List Record) (r : Record) → full ≡ was ++ old ∷ [] → last ≡ [] → full ++ (last ++ r ∷ []) ∷ [] ≡ was ++ old ∷ (r ∷ []) ∷ []
+rows_left full was last old r rows none = cc (rows, none, append_assoc was (old ∷ []) ((r ∷ []) ∷ []))
+
+abbrev pub laid_more : (units : Units) (old new : FilePages) (records : List Record) (r : Record) → AreLaid units old records → new.written ≡ old.written → new.file_no ≡ old.file_no → new.first ≡ old.first
     → ((last : List Record) → SlotsOf old.page.items (page_of old.file_no last) → SlotsOf new.page.items (page_of old.file_no (last ++ r ∷ []))) → AreLaid units new (records ++ r ∷ [])
 laid_more units old new records r laid count number first more = record {
   full = laid.full;
@@ -178,10 +192,10 @@ begun units file none empty = record { full = []; last = []; records_are = refl;
 
 -- ---- the end of a file
 
-none_last : (page : List ℕ) (file_no : ℕ) (last : List Record) → SlotsOf page (page_of file_no last) → length (slots_of page) ≡ 0 → last ≡ []
+pub none_last : (page : List ℕ) (file_no : ℕ) (last : List Record) → SlotsOf page (page_of file_no last) → length (slots_of page) ≡ 0 → last ≡ []
 none_last page file_no last is none = nil_from_length last (omega (arith, none, ap length (slots_are page (page_of file_no last) is), length-map last slot_for))
 
-pub closed : (units : Units) (file : FilePages) (records : List Record) → AreLaid units file records → length (slots_of file.page.items) ≡ 0 → IsClosed units file records
+abbrev pub closed : (units : Units) (file : FilePages) (records : List Record) → AreLaid units file records → length (slots_of file.page.items) ≡ 0 → IsClosed units file records
 closed units file records laid none =
     let last : laid.last ≡ [] = none_last file.page.items file.file_no laid.last laid.at_hand none in
     record { pages = laid.full; records_are = laid.records_are ∙ ap (λ (rs : List Record). all_of laid.full ++ rs) last ∙ append-nil (all_of laid.full); count = laid.count; are = laid.pages }
@@ -189,10 +203,10 @@ closed units file records laid none =
 pub closes_left : (g : Geometry) (a b : Outside) (old new : FilePages) → LeavesPage g a b old new → SlotsOf new.page.items (record { file_no = old.file_no; slots = [] }) → ClosesFile g a b old new
 closes_left g a b old new leaves empty image records holds laid =
     let left = leaves image records holds laid in
-    (left.0, left.1, closed (home g left.0) new records left.2 (ap length (slots_are new.page.items (record { file_no = old.file_no; slots = [] }) empty)))
+    (left.0, left.1, closed (home g left.0) new records left.2 (ap length (slots_are new.page.items (record { file_no = old.file_no; slots = [] }) empty)), inl left.3)
 
 pub closes_none : (g : Geometry) (a : Outside) (file : FilePages) → length (slots_of file.page.items) ≡ 0 → ClosesFile g a a file file
-closes_none g a file none image records holds laid = (image, holds, closed (home g image) file records laid none)
+closes_none g a file none image records holds laid = (image, holds, closed (home g image) file records laid none, inr (refl, none_last file.page.items file.file_no laid.last laid.at_hand none))
 
 -- ---- tests
 
@@ -205,7 +219,7 @@ none_left b zero test is = refl
 none_left b (suc n) test is = absurd (let yes : b ≡ true = test.1 (omega arith) in cc)
 
 -- the same pages
-pub laid_same : (units : Units) (old new : FilePages) (records : List Record) → AreLaid units old records → new.written ≡ old.written → new.file_no ≡ old.file_no → new.first ≡ old.first → new.page.items ≡ old.page.items → AreLaid units new records
+abbrev pub laid_same : (units : Units) (old new : FilePages) (records : List Record) → AreLaid units old records → new.written ≡ old.written → new.file_no ≡ old.file_no → new.first ≡ old.first → new.page.items ≡ old.page.items → AreLaid units new records
 laid_same units old new records laid count number first items = record {
   full = laid.full;
   last = laid.last;

@@ -1,11 +1,11 @@
 -- Records that are laid on pages of a file, one behind the other.
-use Rattle.std.specs.Prelude.{◌≡◌, ℕ, suc, ◌+◌, ◌≤◌, List, [], ◌∷◌, ◌++◌, length, map, Option, Some, None}
+use Rattle.std.specs.Prelude.{◌≡◌, ◌⊎◌, ℕ, suc, ◌+◌, ◌≤◌, List, [], ◌∷◌, ◌++◌, length, map, Option, Some, None}
 use Rattle.std.specs.List.{flat_map}
 use Rattle.ex_base.specs.declared.geometry.Geometry.{Geometry}
 use Rattle.ex_base.specs.declared.names.Place.{Place}
 use Rattle.disk_model.specs.Outside.{Outside}
 use Rattle.object_records.specs.Record.{Record, record_bytes}
-use Rattle.slotted_pages.specs.Edits.{slots_of, vacant_at}
+use Rattle.slotted_pages.specs.Edits.{place_for, slots_of, vacant_at}
 use Rattle.slotted_pages.specs.FilePage.{FilePage, Slot, SlotsOf}
 use Rattle.slotted_pages.specs.Reads.{IsPage}
 use Rattle.trees.specs.Trees.{Units}
@@ -45,15 +45,21 @@ pub record AreLaid (units : Units) (file : FilePages) (records : List Record) : 
   pub pages : ArePagesOn units file.file_no file.first full
   pub at_hand : SlotsOf file.page.items (page_of file.file_no last)
 
--- Whatever records were laid, those and one more are.
-abbrev pub LaysRecord : Geometry → Outside → Outside → FilePages → FilePages → Record → Type 0
-LaysRecord g was now old new r = (image : List ℕ) (records : List Record) → was.disk ≡ Some image → AreLaid (home g image) old records
-    → (later : List ℕ) × (now.disk ≡ Some later) × AreLaid (home g later) new (records ++ r ∷ [])
+-- the records of all pages with one more record: behind those of the page at hand where it got a slot there, and else on a page of its own
+abbrev pub rows_after : List (List Record) → List Record → Record → Option ℕ → List (List Record)
+rows_after full last r None = full ++ last ∷ (r ∷ []) ∷ []
+rows_after full last r (Some slot) = full ++ (last ++ r ∷ []) ∷ []
 
--- Whatever records were laid, they are now.
+-- Whatever records were laid, those and one more are, each where it was.
+abbrev pub LaysRecord : Geometry → Outside → Outside → FilePages → FilePages → Record → Type 0
+LaysRecord g was now old new r = (image : List ℕ) (records : List Record) → was.disk ≡ Some image → (laid : AreLaid (home g image) old records)
+    → (later : List ℕ) × (now.disk ≡ Some later) × (on : AreLaid (home g later) new (records ++ r ∷ []))
+    × (on.full ++ on.last ∷ [] ≡ rows_after laid.full laid.last r (place_for (length old.page.items) (slots_of old.page.items) (length (record_bytes r))))
+
+-- Whatever records were laid, they are now, those of the page at hand on a page that is written.
 abbrev pub LeavesPage : Geometry → Outside → Outside → FilePages → FilePages → Type 0
-LeavesPage g was now old new = (image : List ℕ) (records : List Record) → was.disk ≡ Some image → AreLaid (home g image) old records
-    → (later : List ℕ) × (now.disk ≡ Some later) × AreLaid (home g later) new records
+LeavesPage g was now old new = (image : List ℕ) (records : List Record) → was.disk ≡ Some image → (laid : AreLaid (home g image) old records)
+    → (later : List ℕ) × (now.disk ≡ Some later) × (on : AreLaid (home g later) new records) × (on.full ≡ laid.full ++ laid.last ∷ []) × (on.last ≡ [])
 
 -- All records stand on pages in a row, which begin with the file's first one.
 pub record IsClosed (units : Units) (file : FilePages) (records : List Record) : Type 0 where
@@ -62,15 +68,24 @@ pub record IsClosed (units : Units) (file : FilePages) (records : List Record) :
   pub count : file.written ≡ length pages
   pub are : ArePagesOn units file.file_no file.first pages
 
--- Whatever records were laid, they stand on pages now.
+-- They are those that were laid, with the page at hand, if that has records.
+abbrev pub AreRowsOf : List (List Record) → List (List Record) → List Record → Type 0
+AreRowsOf pages full last = (pages ≡ full ++ last ∷ []) ⊎ ((pages ≡ full) × (last ≡ []))
+
+-- Whatever records were laid, they stand on pages now, each where it was laid.
 abbrev pub ClosesFile : Geometry → Outside → Outside → FilePages → FilePages → Type 0
-ClosesFile g was now old new = (image : List ℕ) (records : List Record) → was.disk ≡ Some image → AreLaid (home g image) old records
-    → (later : List ℕ) × (now.disk ≡ Some later) × IsClosed (home g later) new records
+ClosesFile g was now old new = (image : List ℕ) (records : List Record) → was.disk ≡ Some image → (laid : AreLaid (home g image) old records)
+    → (later : List ℕ) × (now.disk ≡ Some later) × (closed : IsClosed (home g later) new records) × AreRowsOf closed.pages laid.full laid.last
 
 -- how many pages are written, where a record got this slot of the page at hand, or had no room there
 abbrev pub written_after : ℕ → Option ℕ → ℕ
 written_after written None = suc written
 written_after written (Some slot) = written
+
+-- the slots of the page at hand with one more body: behind the others where it got a slot there, and else alone
+abbrev pub slots_after : List Slot → List ℕ → Option ℕ → List Slot
+slots_after slots body None = Some body ∷ []
+slots_after slots body (Some slot) = slots ++ Some body ∷ []
 
 -- The place is that of the last slot of the page at hand.
 pub record IsLastPlace (file : FilePages) (place : Place) : Type 0 where

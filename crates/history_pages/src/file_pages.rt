@@ -1,5 +1,5 @@
 //! The pages of the file at hand.
-ghost use Rattle.std.specs.Prelude.{◌≡◌, ◌↔◌, ◌≤◌, ◌<◌, ◌+◌, suc, length, [], IfOk, OnOk, OnErr, IsTrue};
+ghost use Rattle.std.specs.Prelude.{◌≡◌, ◌↔◌, ◌≤◌, ◌<◌, ◌+◌, suc, min, length, [], IfOk, OnOk, OnErr, IsTrue};
 ghost use Rattle.disk_model.specs.Changes.{ChangesWithin};
 ghost use Rattle.disk_model.specs.Outside.{Outside, Rose};
 ghost use Rattle.ex_base.specs.Area.{area_end, catalog_no};
@@ -39,7 +39,7 @@ pub struct FilePages {
 }
 
 impl FilePages {
-    ghost use Rattle.history_pages.specs.Laid.{AreLaid, ClosesFile, IsAsBefore, IsDense, IsLastPlace, LaysRecord, LeavesPage, SameFile, written_after};
+    ghost use Rattle.history_pages.specs.Laid.{AreLaid, ClosesFile, IsAsBefore, IsDense, IsLastPlace, LaysRecord, LeavesPage, SameFile, slots_after, written_after};
     ghost use Rattle.trees.specs.Trees.{Units};
 
     /// Begins a file, whose pages are those from one on.
@@ -113,6 +113,10 @@ impl FilePages {
         ensures written { OnOk result (self.new.written ≡ written_after self.old.written
             (place_for (length self.old.page.items) (slots_of self.old.page.items)
             (length body.now))) }
+        ensures slots { OnOk result (slots_of self.new.page.items
+            ≡ slots_after (slots_of self.old.page.items) body.now
+            (place_for (length self.old.page.items) (slots_of self.old.page.items)
+            (length body.now))) }
         ensures page { IsDense self.new.page.items }
         ensures file { SameFile self.old self.new }
         ensures failed { OnErr result (IsAsBefore self.old self.new) }
@@ -144,7 +148,8 @@ impl FilePages {
         requires page { IsDense self.old.page.items }
         ensures closes { OnOk result (ClosesFile geometry.now (D.outside disk.old)
             (D.outside disk.new) self.old self.new) }
-        ensures written { self.new.written ≤ suc self.old.written }
+        ensures written { OnOk result (self.new.written
+            ≡ self.old.written + min 1 (length (slots_of self.old.page.items))) }
         ensures file { SameFile self.old self.new }
         ensures changes { ChangesWithin (InPagesFrom geometry.now self.old.first)
             (D.outside disk.old) (D.outside disk.new) }

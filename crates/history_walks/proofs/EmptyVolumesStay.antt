@@ -1,6 +1,6 @@
 -- An empty volume stays at rest while units behind its catalog's page are written.
 use Rattle.std.proofs.Common.{◌≡◌, ◌≢◌, ◌⊎◌, ◌≤◌, ◌<◌, ◌+◌, ◌*◌, inl, inr, ⊎_elim, ℕ, Bool, true, List, [], ◌∷◌, ◌++◌, Option, Some, IsTrue, refl, sym, subst, ap, ◌∙◌, arith}
-use Rattle.std.specs.Prelude.{Contains, ◌↔◌}
+use Rattle.std.specs.Prelude.{Contains, IsSome, ◌↔◌}
 use Rattle.std.specs.List.{AllByRecursion, flat_map}
 use Rattle.std.proofs.lemmas.Bool.{cases_lt, lt-ltb}
 use Rattle.std.proofs.Math.Nat.{mul-le-mul_right}
@@ -9,15 +9,16 @@ use Rattle.ex_base.specs.Area.{IsUnit, area_end, catalog_no}
 use Rattle.ex_base.specs.Ports.{times}
 use Rattle.ex_base.proofs.Counts.{times_here}
 use Rattle.disk_model.specs.Changes.{ChangesWithin, changes_wider}
-use Rattle.disk_model.specs.Outside.{IsWorld, Leaves, Outside}
-use Rattle.disk_model.specs.Runs.{honest_on}
+use Rattle.disk_model.specs.Outside.{Adds, IsWorld, Leaves, Outside, SourceOnly}
+use Rattle.disk_model.specs.Runs.{adds_wider, each_on, honest_on, leaves_trans}
 use Rattle.page_alloc.specs.UnitSet.{refs_at, used_at}
 use Rattle.table_model.specs.declared.table.Table.{Table}
 use Rattle.table_model.specs.Tables.{empty_table}
-use Rattle.tree_store.specs.Stored.{InRest, InUnit, IsCounted, NoUnit, unit_len}
+use Rattle.tree_store.specs.Stored.{InRest, InUnit, IsCounted, NoUnit, Tells, unit_len}
 use Rattle.trees.specs.Owners.{IsOwned, all_named}
 use Rattle.trees.specs.Trees.{Units}
 use Rattle.version_lists.proofs.Lists.{Has, contains_has, has_contains}
+use Rattle.volume_model.specs.CrashImage.{agrees_stands}
 use Rattle.volume_model.specs.FreshView.{KnowsUnits, OwnsUnits}
 use Rattle.volume_model.specs.Homes.{home}
 use Rattle.volume_model.specs.Parts.{StandsFor}
@@ -31,6 +32,7 @@ use Rattle.restart.proofs.PortShows.{fresh_tells}
 use Rattle.restart.specs.Opening.{AreOpened}
 use Rattle.history_commits.proofs.EmptyVolumes.{no_content}
 use Rattle.history_writes.specs.Places.{IsBehindCatalog}
+use Rattle.history_walks.specs.Staying.{StaysEmpty}
 
 -- ---- owners where no unit has one
 
@@ -103,7 +105,7 @@ module _ (a b : Outside) (p : VolumeState) (opened : AreOpened p) (d : Decoded) 
 
   -- ---- at rest
 
-  pub stays : (later : List ℕ) × (b.disk ≡ Some later) × IsAtRest b p d later × (table_of (units_of d later) d.volume ≡ empty_table)
+  stays : (later : List ℕ) × (b.disk ≡ Some later) × IsAtRest b p d later × (table_of (units_of d later) d.volume ≡ empty_table)
   stays =
       let counted = subst (λ (g : Geometry). IsCounted g p.units) (sym rests.geometry) rests.ready.fits.counted in
       let now = stays_on d image NoUnit p.units p.units counted safe a b in_rest rests.told.0 p.log p.meta.committed rests.committed rests.holds (λ unit stays. stays) in
@@ -130,7 +132,57 @@ module _ (a b : Outside) (p : VolumeState) (opened : AreOpened p) (d : Decoded) 
         still.table ∙ empty,
       )
 
-  pub meanwhile : IsWorld a → Leaves a b (λ e. StandsFor e empty_table)
+  meanwhile : IsWorld a → Leaves a b (λ e. StandsFor e empty_table)
   meanwhile world =
       let counted = subst (λ (g : Geometry). IsCounted g p.units) (sym rests.geometry) rests.ready.fits.counted in
       subst (λ (t : Table). Leaves a b (λ e. StandsFor e t)) empty (stands_meanwhile d image NoUnit p.units p.units counted safe a b in_rest rests.told.0 p.log p.meta.committed rests.committed world)
+
+-- ---- from one moment to another
+
+-- where units behind the catalog's page alone were written,
+pub writing_stays : (a b : Outside) (volume : VolumeState) → AreOpened volume → IsWorld a → ChangesWithin (IsBehindCatalog volume.geometry) a b → StaysEmpty a b volume
+writing_stays a b volume opened world changes d image rests empty =
+    let now = stays a b volume opened d image rests empty changes in
+    (now.0, now.1, now.2, now.3, meanwhile a b volume opened d image rests empty changes world)
+
+-- where the source alone was used,
+pub taking_stays : (a b : Outside) (volume : VolumeState) → IsWorld a → SourceOnly a b → StaysEmpty a b volume
+taking_stays a b volume world only d image rests empty = (image, only.disk ∙ rests.holds, still, empty, record { clock = only.goes.clock; each = each; adds = added; now = λ e here. stands e (only.images.back e here) })
+  where
+    told : Tells b volume.groups
+    told = (
+      honest_on only.goes rests.told.0,
+      subst (λ (held : Option (List ℕ)). IsSome held) (sym only.disk) rests.told.1,
+      rw (sym only.disk) at rests.told.2,
+    )
+
+    still : IsAtRest b volume d image
+    still = record {
+      told = told;
+      ready = subst (λ (size : ℕ). AreReady size volume) (sym only.goes.size) rests.ready;
+      holds = only.disk ∙ rests.holds;
+      none = rests.none;
+      geometry = rests.geometry;
+      committed = record { parts = rests.committed.parts; durable = λ e here. rests.committed.durable e (only.images.back e here); shown = rests.committed.shown };
+      images = rests.images;
+      working = rests.working;
+      knows = rests.knows;
+      owned = rests.owned;
+      kept = rests.kept;
+    }
+
+    stands : (e : List ℕ) → a.images e → StandsFor e empty_table
+    stands e here = subst (StandsFor e) empty (agrees_stands image e d rests.committed.parts (rests.committed.durable e here))
+
+    added : Adds a b (λ s e. StandsFor e empty_table)
+    added = adds_wider (λ s e. (a.sent ≡ Some s) × a.images e) (λ s e. StandsFor e empty_table) only.adds (λ s e new. stands e new.1)
+
+    each : (s e : List ℕ) → b.moments a.clock s e → StandsFor e empty_table
+    each = each_on a.clock (λ s e. StandsFor e empty_table) (omega arith) (λ s e moment. stands e (world.now_only s e moment).1) added
+
+-- and where one came after another
+pub staying_joins : (a b c : Outside) (volume : VolumeState) → StaysEmpty a b volume → StaysEmpty b c volume → StaysEmpty a c volume
+staying_joins a b c volume one other d image rests empty =
+    let first = one d image rests empty in
+    let second = other d first.0 first.2 first.3 in
+    (second.0, second.1, second.2, second.3, leaves_trans (λ e. StandsFor e empty_table) first.4 second.4)

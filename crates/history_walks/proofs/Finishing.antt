@@ -44,10 +44,11 @@ module _ (g : Geometry) (image joined page : List ℕ) (head : StreamHead) (h : 
         let within = numbered_within h.nodes i is.0 is.1 in
         walked.nodes_in i within.0 (subst (λ (n : ℕ). i ≤ n) (ap (λ (x : StreamHead). x.nodes) read.head_is) within.1)
 
-    pub loaded : volume_bytes g ≤ length image → CatalogOf page c → length page ≡ g.page_size → c.entries ≡ entries → c.next_unique ≡ head.next_unique → c.last ≡ head.last → LoadsAs g image joined page head.last
+    pub loaded : volume_bytes g ≤ length image → CatalogOf page c → length page ≡ g.page_size → c.entries ≡ entries → c.next_unique ≡ head.next_unique → c.last ≡ head.last → LoadsAs g image joined page head.last head.leaves
     loaded large catalog size same next last =
         let next_is : h.next_unique ≡ c.next_unique = ap (λ (x : StreamHead). x.next_unique) read.head_is ∙ sym next in
         let last_is : h.last ≡ c.last = ap (λ (x : StreamHead). x.last) read.head_is ∙ sym last in
-        subst (LoadsAs g image joined page) last (subst (λ (stream : List ℕ). LoadsAs g image stream page c.last) (sym read.spelled)
+        subst (LoadsAs g image joined page head.last) (ap (λ (x : StreamHead). x.leaves) read.head_is) (subst (λ (n : ℕ). LoadsAs g image joined page n (length h.leaves)) last
+        (subst (λ (stream : List ℕ). LoadsAs g image stream page c.last (length h.leaves)) (sym read.spelled)
         (loads g image page c h (leaf_place g) node_place large catalog size next_is last_is read.items read.lengths read.pages (written_at same)
-        (record { files = walked.files; holds = walked.holds; reached = reached })))
+        (record { files = walked.files; holds = walked.holds; reached = reached }) (λ i lt. refl))))

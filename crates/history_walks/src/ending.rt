@@ -7,6 +7,7 @@ ghost use Rattle.object_files.specs.Edits.{IsCatalogPage, entries_on};
 ghost use Rattle.volume_model.specs.Homes.{home};
 ghost use Rattle.history_commits.specs.Loads.{LoadsAs};
 ghost use Rattle.history_fronts.specs.Fronts.{history_of};
+ghost use Rattle.history_model.specs.Dumps.{IsNoDump};
 ghost use Rattle.history_reads.specs.Reads.{IsRead};
 ghost use Rattle.history_writes.specs.Files.{IsWritten};
 ghost use Rattle.history_walks.specs.Reached.{IsWalked};
@@ -57,6 +58,10 @@ fn walk_written<D: Disk>(
         → (D.outside disk.old).disk ≡ Some image
         → IsWalked progress.now.geometry (home progress.now.geometry image) c
         progress.now.head.leaves progress.now.head.nodes) }
+    ensures bad { result ≡ Err FinishFault.Bad → (c : Catalog) (image : List ℕ)
+        → CatalogOf catalog.now c → (D.outside disk.old).disk ≡ Some image
+        → IsWalked progress.now.geometry (home progress.now.geometry image) c
+        progress.now.head.leaves progress.now.head.nodes → ⊥ }
 {
     let Some(view) = CatalogView::of(catalog) else {
         unreachable!();
@@ -119,7 +124,15 @@ pub fn finish<D: Disk>(
         → (is : IsRead progress.now.geometry joined progress.now held.now)
         → IsWritten progress.now.geometry (home progress.now.geometry image)
         (history_of is.front) (entries_on catalog.items)
-        → LoadsAs progress.now.geometry image joined l.catalog.items l.last) }
+        → LoadsAs progress.now.geometry image joined l.catalog.items l.last l.leaves) }
+
+    // What was read is no dump, where what it says was written.
+    ensures bad { result ≡ Err FinishFault.Bad → (joined image : List ℕ)
+        → (D.outside disk.old).disk ≡ Some image
+        → (is : IsRead progress.now.geometry joined progress.now held.now)
+        → IsWritten progress.now.geometry (home progress.now.geometry image)
+        (history_of is.front) (entries_on catalog.items)
+        → IsNoDump joined progress.now.geometry }
 {
     if !is_all_read(progress, held) {
         return Err(FinishFault::Bad);

@@ -33,9 +33,9 @@ images : (g : given.Over) (c : After-commit g) → c.args.volume.meta.committed 
 images g c = sym (ap (λ (m : Overlays). m.committed) c.in-Ok.ensures.ok)
 
 module _ (g : given.Over) (c : After-commit g) (d : Decoded) (image stream : List ℕ) (rests : IsAtRest (g.D.World.outside c.args.disk.now) c.args.volume d image)
-    (empty : table_of (units_of d image) d.volume ≡ empty_table) (loads : LoadsAs c.args.volume.geometry image stream c.args.loaded.now.catalog.items c.args.loaded.now.last) where
-  there : LoadsAs d.geometry image stream c.args.loaded.now.catalog.items c.args.loaded.now.last
-  there = loads_there (g.D.World.outside c.args.disk.now) c.args.volume d image rests empty stream c.args.loaded.now.catalog.items c.args.loaded.now.last loads
+    (empty : table_of (units_of d image) d.volume ≡ empty_table) (loads : LoadsAs c.args.volume.geometry image stream c.args.loaded.now.catalog.items c.args.loaded.now.last c.args.loaded.now.leaves) where
+  there : LoadsAs d.geometry image stream c.args.loaded.now.catalog.items c.args.loaded.now.last c.args.loaded.now.leaves
+  there = loads_there (g.D.World.outside c.args.disk.now) c.args.volume d image rests empty stream c.args.loaded.now.catalog.items c.args.loaded.now.last c.args.loaded.now.leaves loads
 
   committed : Committed (g.D.World.outside c.args.disk.now).images d image c.args.volume.log c.start.new.self.committed
   committed = subst (Committed (g.D.World.outside c.args.disk.now).images d image c.args.volume.log) (images g c) rests.committed
@@ -44,14 +44,14 @@ module _ (g : given.Over) (c : After-commit g) (d : Decoded) (image stream : Lis
   overlay = subst (IsOverlayOf d.volume) (images g c) (no_overlay (g.D.World.outside c.args.disk.now) c.args.volume d image rests empty)
 
   may : MayCommit d image c.start.new.self.working c.args.loaded.now.last there.volume
-  may = may_commit (g.D.World.outside c.args.disk.now) c.args.volume d image rests empty stream c.args.loaded.now.catalog.items c.args.loaded.now.last there c.start.new.self.working (rows g c)
+  may = may_commit (g.D.World.outside c.args.disk.now) c.args.volume d image rests empty stream c.args.loaded.now.catalog.items c.args.loaded.now.last c.args.loaded.now.leaves there c.start.new.self.working (rows g c)
 
 pub returns-clause-done : goal.returns-clause-done
 returns-clause-done g c = if_ok_on_ok c.commit.result _ _ (λ u done d image stream rests empty loads.
     let at = (goal.at.returns-clause-done g c).After-commit in
     let work = there g at d image stream rests empty loads in
     let later = done d image work.volume rests.told.0 rests.holds (committed g at d image stream rests empty loads) (overlay g at d image stream rests empty loads) (may g at d image stream rests empty loads) in
-    holds_dump (g.D.World.outside c.args.disk.now) c.args.volume d image rests empty stream c.args.loaded.now.catalog.items c.args.loaded.now.last work c.start.new.self.working (rows g at)
+    holds_dump (g.D.World.outside c.args.disk.now) c.args.volume d image rests empty stream c.args.loaded.now.catalog.items c.args.loaded.now.last c.args.loaded.now.leaves work c.start.new.self.working (rows g at)
     (g.D.World.outside c.commit.new.disk) _ later.0 _ _ later.1 later.2) c.commit.ensures.done
 
 pub returns-clause-any_moment : goal.returns-clause-any_moment
@@ -60,4 +60,4 @@ returns-clause-any_moment g c d image stream rests empty loads =
     let work = there g at d image stream rests empty loads in
     leaves_wider (StandsForEither d image c.start.new.self.working work.volume) (λ e. StandsFor e empty_table ⊎ IsDumpImage c.args.volume.geometry stream e)
     (c.commit.ensures.any_moment d image work.volume rests.told.0 rests.holds (committed g at d image stream rests empty loads) (overlay g at d image stream rests empty loads) (may g at d image stream rests empty loads))
-    (either_load (g.D.World.outside c.args.disk.now) c.args.volume d image rests empty stream c.args.loaded.now.catalog.items c.args.loaded.now.last work c.start.new.self.working (rows g at))
+    (either_load (g.D.World.outside c.args.disk.now) c.args.volume d image rests empty stream c.args.loaded.now.catalog.items c.args.loaded.now.last c.args.loaded.now.leaves work c.start.new.self.working (rows g at))

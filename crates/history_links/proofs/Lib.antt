@@ -1,0 +1,4 @@
+pub mod NumberOrder
+pub mod Older
+pub mod Counting
+pub mod LinkList
