@@ -16,6 +16,7 @@ const SCRIPT: &[u8] = b"log";
 
 /// What a file of another run is called that isn't whole yet, and one that is made beside it.
 const UNFINISHED: &str = ".exsm-new-0";
+
 const TEMPORARY: &str = ".exsm-new-1";
 
 // An output that was sent nothing yet.
