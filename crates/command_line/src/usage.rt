@@ -25,9 +25,10 @@ impl fmt::Display for Usage {
                 let generate = grammar_of(CommandWord::Gen);
                 let clients = grammar_of(CommandWord::Clients);
                 let dump = grammar_of(CommandWord::Dump);
+                let load = grammar_of(CommandWord::Load);
                 write!(
                     f,
-                    "usage: exsm {format}\n       exsm {run}\n       exsm {check}\n       exsm {generate}\n       exsm {clients}\n       exsm {dump}"
+                    "usage: exsm {format}\n       exsm {run}\n       exsm {check}\n       exsm {generate}\n       exsm {clients}\n       exsm {dump}\n       exsm {load}"
                 )
             }
         }
@@ -50,6 +51,8 @@ const CLIENTS: &str = "clients VOLUME [--max-bytes N] < SCHEDULE
 
 const DUMP: &str = "dump VOLUME > STREAM";
 
+const LOAD: &str = "load VOLUME < STREAM";
+
 /// How a command is called, behind the program's name.
 fn grammar_of(command: CommandWord) -> &'static str
     ensures { result.now ≡ grammar_text command }
@@ -61,5 +64,6 @@ fn grammar_of(command: CommandWord) -> &'static str
         CommandWord::Gen => GEN,
         CommandWord::Clients => CLIENTS,
         CommandWord::Dump => DUMP,
+        CommandWord::Load => LOAD,
     }
 }
