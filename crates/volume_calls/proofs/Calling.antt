@@ -29,6 +29,10 @@ not_both : (b : Bool) → IsTrue b → b ≡ false → ⊥
 not_both true holds denied = absurd (cc)
 not_both false holds denied = absurd (cc)
 
+-- a refusal is no stop
+no_stop : {A : Type 0} (refusal : Refusal) (why : Stop) → ◌≡◌ {A = Result A NotDone} (Err (Refused refusal)) (Err (Stopped why)) → ⊥
+no_stop refusal why is = cc
+
 -- what came of a step, as a call tells it
 pub record Turns (told : Result Reply Stop) (result : Result Reply NotDone) : Type 0 where
   pub done : (x : Reply) → result ≡ Ok x → told ≡ Ok x
@@ -74,6 +78,9 @@ called_unformed M fits a image r result lent denied is = record {
   accepted = λ why done. absurd (cc);
   ended = λ formed before same shows. absurd (not_both (is_formed r) formed denied);
   any_moment = λ formed before same shows. absurd (not_both (is_formed r) formed denied);
+  takes_none = λ checkpoint memory. no_stop (unformed r) stop.Memory (sym is ∙ memory);
+  unwritten = λ commit memory. absurd (no_stop (unformed r) stop.Memory (sym is ∙ memory));
+  damaged = λ page want got told. absurd (no_stop (unformed r) (stop.Damaged page want got) (sym is ∙ told));
 }
 
 -- a step that left the session and the list so
@@ -97,6 +104,9 @@ module _ {S : Type 0} (M : Meaning S) (fits : S → ℕ → Type 0) (a b : LentV
         accepted = turns.accepted;
         ended = λ is before same shows. ended M b before r told result turns (over.stepped before same shows) (λ why. over.sound before why same shows);
         any_moment = λ is before same shows. over.any_moment before same shows;
+        takes_none = λ checkpoint memory. over.takes_none checkpoint (turns.stopped stop.Memory memory);
+        unwritten = λ commit memory. over.unwritten commit (turns.stopped stop.Memory memory);
+        damaged = λ page want got is. over.damaged page want got (turns.stopped (stop.Damaged page want got) is);
       }
 
   pub line_called : (line : Line) (told : Result (Option Refusal) Unanswered) (result : Result (Unit {0}) NotDone) → TurnsLine told result

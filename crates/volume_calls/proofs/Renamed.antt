@@ -1,6 +1,6 @@
 -- What is said of the outside of a lent host holds whichever loans it has.
 use Rattle.std.proofs.Common.{◌≡◌, ℕ, List, Option, Result, Ok, Err, IfOk, OnOk, refl}
-use Rattle.disk_model.specs.Outside.{Leaves}
+use Rattle.disk_model.specs.Outside.{Leaves, ReadsOnly}
 use Rattle.table_model.specs.declared.reply.Reply.{Reply}
 use Rattle.table_model.specs.declared.reply.Refusal.{Refusal}
 use Rattle.table_model.specs.declared.table.Table.{Table}
@@ -47,6 +47,40 @@ module _ (file : List ℕ) (asked now : List Asked) (i a i' a' : ℕ) where
   leaves_renamed : (Q : List ℕ → Type 0) → Leaves (outside_of file asked i a) (outside_of file now i' a') Q → Leaves (outside_of file asked 0 0) (outside_of file now 0 0) Q
   leaves_renamed Q leaves = record { clock = leaves.clock; each = leaves.each; adds = record { each = leaves.adds.each }; now = leaves.now }
 
+  reads_renamed : ReadsOnly (outside_of file asked i a) (outside_of file now i' a') → ReadsOnly (outside_of file asked 0 0) (outside_of file now 0 0)
+  reads_renamed reads =
+      let only = reads.nothing.only in
+      let goes = only.goes in
+      record {
+        nothing = record {
+          only = record {
+            goes = record {
+              size = goes.size;
+              honest = goes.honest;
+              disk_told = goes.disk_told;
+              left_told = goes.left_told;
+              sent_told = goes.sent_told;
+              calls_told = goes.calls_told;
+              clock = goes.clock;
+              disk_faults = goes.disk_faults;
+              read_faults = goes.read_faults;
+              write_faults = goes.write_faults;
+              moments = goes.moments;
+              past = goes.past;
+            };
+            left = refl;
+            sent = only.sent;
+            read_faults = only.read_faults;
+            write_faults = only.write_faults;
+            adds = record { each = only.adds.each };
+          };
+          disk = reads.nothing.disk;
+          back = reads.nothing.back;
+          adds = λ honest. record { each = (reads.nothing.adds honest).each };
+        };
+        on = reads.on;
+      }
+
   module _ {S : Type 0} (M : Meaning S) where
     pub steps_renamed : {session last : S} {r : Request} (result : Result Reply Stop) → StepsOver M session last (outside_of file asked i a) (outside_of file now i' a') r result
         → StepsOver M session last (outside_of file asked 0 0) (outside_of file now 0 0) r result
@@ -54,6 +88,9 @@ module _ (file : List ℕ) (asked now : List Asked) (i a i' a' : ℕ) where
       stepped = λ before same shows. on_ok result (λ told stepped. stepped_renamed M file now i' a' 0 0 stepped) (steps.stepped before same (shows_renamed M file asked 0 0 i a shows));
       sound = λ before why same shows. steps.sound before why same (shows_renamed M file asked 0 0 i a shows);
       any_moment = λ before same shows. leaves_renamed _ (steps.any_moment before same (shows_renamed M file asked 0 0 i a shows));
+      takes_none = steps.takes_none;
+      unwritten = λ commit memory. reads_renamed (steps.unwritten commit memory);
+      damaged = steps.damaged;
     }
 
     pub lines_renamed : {session last : S} {line : Line} {text : List ℕ} (result : Result (Option Refusal) Unanswered) → LinesOver M session last (outside_of file asked i a) (outside_of file now i' a') line text result

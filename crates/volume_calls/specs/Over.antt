@@ -1,10 +1,12 @@
 -- What a step leaves of a session and of the outside, over a volume of any kind.
-use Rattle.std.specs.Prelude.{◌≡◌, ◌⊎◌, ℕ, IsTrue, List, Some, Result, Ok, Err, IfOk, OnOk, Option}
-use Rattle.disk_model.specs.Outside.{Outside, Leaves, Only}
+use Rattle.std.specs.Prelude.{◌≡◌, ◌≢◌, ◌⊎◌, ℕ, IsTrue, List, Some, Result, Ok, Err, IfOk, OnOk, Option}
+use Rattle.disk_model.specs.Outside.{Outside, Leaves, Only, ReadsOnly}
+use Rattle.ex_base.specs.declared.faults.Seen.{Seen}
+use Rattle.ex_base.specs.declared.names.PageNo.{PageNo}
 use Rattle.table_model.specs.declared.reply.Reply.{Reply}
 use Rattle.table_model.specs.declared.reply.Refusal.{Refusal}
 use Rattle.table_model.specs.declared.table.Table.{Table}
-use Rattle.table_model.specs.Requests.{Request}
+use Rattle.table_model.specs.Requests.{Checkpoint, Commit, Request}
 use Rattle.script_lines.specs.Lines.{Line}
 use Rattle.script_lang.specs.Reading.{Reading, Reads}
 use Rattle.session_views.specs.declared.stop.Stop.{Stop}
@@ -27,6 +29,10 @@ pub record StepsOver {S : Type 0} (M : Meaning S) (session now : S) (v w : Outsi
   pub sound : (before : View S) (why : Stop) → before.session ≡ session → ShowsNow M v before → result ≡ Err why → (why ≡ stop.Disk) ⊎ (why ≡ stop.Memory)
   -- and a crash at any moment of it leaves the committed table before it, or in a commit that one or the next.
   pub any_moment : (before : View S) → before.session ≡ session → ShowsNow M v before → Leaves v w (StandsDuring M before.machine r)
+  -- A checkpoint wants no memory, a commit that wants some only read, and damage is told of two things that differ.
+  pub takes_none : r ≡ Checkpoint → result ≡ Err stop.Memory → ⊥
+  pub unwritten : r ≡ Commit → result ≡ Err stop.Memory → ReadsOnly v w
+  pub damaged : (page : PageNo) (want got : Seen) → result ≡ Err (stop.Damaged page want got) → want ≢ got
 
 -- The same of a line, and of the text that is left.
 pub record LinesOver {S : Type 0} (M : Meaning S) (session now : S) (v w : Outside) (line : Line) (text : List ℕ) (result : Result (Option Refusal) Unanswered) : Type 0 where

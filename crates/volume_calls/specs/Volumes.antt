@@ -1,11 +1,13 @@
 -- What a call on an open volume leaves of it.
-use Rattle.std.specs.Prelude.{◌≡◌, ◌⊎◌, ℕ, IsTrue, false, List, [], length, Result, Ok, Err, IfOk, OnOk, Option, Some, None}
-use Rattle.disk_model.specs.Outside.{Outside, Leaves}
+use Rattle.std.specs.Prelude.{◌≡◌, ◌≢◌, ◌⊎◌, ℕ, IsTrue, false, List, [], length, Result, Ok, Err, IfOk, OnOk, Option, Some, None}
+use Rattle.disk_model.specs.Outside.{Outside, Leaves, ReadsOnly}
+use Rattle.ex_base.specs.declared.faults.Seen.{Seen}
+use Rattle.ex_base.specs.declared.names.PageNo.{PageNo}
 use Rattle.table_model.specs.declared.reply.Reply.{Reply}
 use Rattle.table_model.specs.declared.reply.Reply.TheVariants as reply
 use Rattle.table_model.specs.declared.reply.Refusal.{Refusal}
 use Rattle.table_model.specs.declared.table.Table.{Table}
-use Rattle.table_model.specs.Requests.{Request}
+use Rattle.table_model.specs.Requests.{Checkpoint, Commit, Request}
 use Rattle.script_lines.specs.Lines.{Line}
 use Rattle.script_lang.specs.Reading.{Reading, Reads}
 use Rattle.session_views.specs.declared.stop.Stop.{Stop}
@@ -60,6 +62,10 @@ pub record Called {S : Type 0} (M : Meaning S) (fits : S → ℕ → Type 0) (a 
   -- and whichever front of the listed calls is made, it leaves the committed table before it, or in a commit that one or the next.
   pub any_moment : IsTrue (is_formed r) → (before : View S) → before.session ≡ a.session → ShowsNow M (outside_at a) before
       → Leaves (outside_at a) (outside_at b) (StandsDuring M before.machine r)
+  -- A checkpoint wants no memory, a commit that wants some only read, and damage is told of two things that differ.
+  pub takes_none : r ≡ Checkpoint → result ≡ Err (Stopped stop.Memory) → ⊥
+  pub unwritten : r ≡ Commit → result ≡ Err (Stopped stop.Memory) → ReadsOnly (outside_at a) (outside_at b)
+  pub damaged : (page : PageNo) (want got : Seen) → result ≡ Err (Stopped (stop.Damaged page want got)) → want ≢ got
 
 -- what came of a line, from a view
 abbrev pub LineEnded : {S : Type 0} → Meaning S → View S → Reading → Result (Unit {0}) NotDone → LentVolume S → Type 0

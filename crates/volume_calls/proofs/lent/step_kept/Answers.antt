@@ -15,4 +15,7 @@ returns-clause-steps g c = record {
   stepped = λ before same shows. c.step.ensures.stepped before same shows;
   sound = λ before why same shows is. c.step.ensures.sound before why same shows is;
   any_moment = λ before same shows. c.step.ensures.any_moment before same shows;
+  takes_none = c.step.ensures.takes_none;
+  unwritten = c.step.ensures.unwritten;
+  damaged = c.step.ensures.damaged;
 }
