@@ -1,0 +1,4 @@
+pub mod Faults
+pub mod AtHand
+pub mod Loading
+pub mod Streams
