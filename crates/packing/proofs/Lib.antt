@@ -1,3 +1,4 @@
 pub mod Installing
 pub mod LowUnits
 pub mod Sharing
+pub mod Away

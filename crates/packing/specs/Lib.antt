@@ -1,2 +1,7 @@
 pub mod Dense
 pub mod Moving
+pub mod Faults
+pub mod Objects
+pub mod Resting
+pub mod Packing
+pub mod Loop
