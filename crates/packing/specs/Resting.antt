@@ -1,10 +1,11 @@
 -- A volume at rest of which trees are moved.
-use Rattle.std.specs.Prelude.{◌≡◌, ◌≢◌, ◌≤◌, ◌⊎◌, ◌+◌, ℕ, true, List, [], ◌∷◌, Some, Contains, ⊤}
+use Rattle.std.specs.Prelude.{◌≡◌, ◌≢◌, ◌≤◌, ◌⊎◌, ◌+◌, ℕ, true, false, List, [], ◌∷◌, length, Some, Contains, ⊤}
 use Rattle.std.specs.List.{AllByRecursion}
-use Rattle.ex_base.specs.declared.names.Area.TheVariants.{Page}
+use Rattle.ex_base.specs.declared.names.Area.TheVariants.{Page, Segment}
 use Rattle.ex_base.specs.declared.names.PageNo.{PageNo}
 use Rattle.ex_base.specs.declared.names.Root.{Root}
-use Rattle.ex_base.specs.Area.{catalog_no}
+use Rattle.ex_base.specs.Area.{InPageArea, NamesLeaf, catalog_no}
+use Rattle.ex_base.specs.Ports.{times}
 use Rattle.disk_model.specs.Outside.{Outside, Rose}
 use Rattle.object_records.specs.Record.{Large}
 use Rattle.page_alloc.specs.UnitSet.{free_count, used_at}
@@ -36,6 +37,7 @@ pub record IsSameBut (d : Decoded) (disk : List ℕ) (now : Decoded) (image : Li
   pub table : table_of (units_of now image) now.volume ≡ table_of (units_of d disk) d.volume
   pub catalog : now.volume.catalog ≡ d.volume.catalog
   pub pages : file_pages now.volume ≡ file_pages d.volume
+  pub page : units_of now image catalog_no ≡ units_of d disk catalog_no
 
 -- What was read before the first version is so of the volume: the bytes of its catalog, the number of its last transaction.
 pub record IsStartOf (d : Decoded) (disk : List ℕ) (start : Start) : Type 0 where
@@ -77,13 +79,30 @@ pub record RestsAgain (w : Outside) (volume : VolumeState) (d : Decoded) (disk :
   pub rests : IsAtRest w volume decoded image
   pub same : IsSameBut d disk decoded image
 
+-- the nodes above high leaves of a version, and its high leaves, each once
+abbrev pub nodes_moved : Decoded → List ℕ → ℕ → LargeVersion → List ℕ
+nodes_moved d disk dense version = each_once (root_nodes_above d.geometry dense (units_of d disk) version.root)
+
+abbrev pub leaves_moved : Decoded → List ℕ → ℕ → LargeVersion → List ℕ
+leaves_moved d disk dense version = each_once (root_high_leaves d.geometry dense (units_of d disk) version.root)
+
+-- a unit that was in use, and is free
+abbrev pub IsGone : VolumeState → VolumeState → ℕ → Type 0
+IsGone old new u = (used_at old.units u ≡ true) × (used_at new.units u ≡ false)
+
+-- these units are free, each of them once
+pub record AreGone (old new : VolumeState) (gone : List ℕ) : Type 0 where
+  pub each : AllByRecursion (IsGone old new) gone
+  pub once : (p : ℕ) → times p gone ≤ 1
+
 -- One version was moved: its tree has no high leaf, and each other record is as it was. It paid for the nodes and leaves that got copies, and gave back what no other
--- tree has. The new copies are sound and own to the object, and stand in the new tree.
+-- tree has. Each high leaf has a copy; the copies are sound, and new ones stand in the new tree.
 pub record MovesVersion (w : Outside) (old new : VolumeState) (d : Decoded) (disk : List ℕ) (dense : ℕ) (moves after : Copies) (version : LargeVersion) : Type 0 where
   pub again : RestsAgain w new d disk
   pub made : Root
   -- the records: this one has another root, in its place and with its head
   pub others : (s : Stored) → Contains (stored_in d.volume) s → (oid_of s ≡ version.oid → ⊥) → Contains (stored_in again.decoded.volume) s
+  pub stored : (s : Stored) → Contains (stored_in again.decoded.volume) s → (oid_of s ≡ version.oid → ⊥) → Contains (stored_in d.volume) s
   pub moved : Stored
   pub there : Contains (stored_in again.decoded.volume) moved
   pub oid : oid_of moved ≡ version.oid
@@ -94,13 +113,16 @@ pub record MovesVersion (w : Outside) (old new : VolumeState) (d : Decoded) (dis
   -- the copies
   pub fresh : (page : ℕ) (copy : PageNo) → after page ≡ Some copy
       → (moves page ≡ Some copy) ⊎ (Has (root_units (units_of d disk) version.root) page × Has (root_units (units_of again.decoded again.image) made) copy.0)
-  pub copies : (level page : ℕ) (copy : PageNo) → Has (root_units (units_of d disk) version.root) page → after page ≡ Some copy → (moves page ≡ Some copy → ⊥)
-      → IsNamed d.geometry (units_of d disk) level page → IsOwnCopy new again.decoded again.image dense moved level page copy
-  -- what was taken, and what is free then
-  pub pages : free_count old.geometry (used_at old.units) Page + unmoved after (each_once (root_nodes_above d.geometry dense (units_of d disk) version.root))
-      ≤ free_count old.geometry (used_at new.units) Page + unmoved moves (each_once (root_nodes_above d.geometry dense (units_of d disk) version.root))
-  pub leaves : free_below d.geometry (used_at old.units) dense + unmoved after (each_once (root_high_leaves d.geometry dense (units_of d disk) version.root))
-      ≡ free_below d.geometry (used_at new.units) dense + unmoved moves (each_once (root_high_leaves d.geometry dense (units_of d disk) version.root))
+  pub sound : (level page : ℕ) (copy : PageNo) → Has (root_units (units_of d disk) version.root) page → after page ≡ Some copy
+      → IsNamed d.geometry (units_of d disk) level page → IsSoundPair d.geometry (units_of again.decoded again.image) (used_at new.units) dense level page copy.0
+  pub each : AllByRecursion (λ p. (copy : PageNo) × (after p ≡ Some copy)) (leaves_moved d disk dense version)
+  -- what was taken and given back
+  pub pages : (gone : List ℕ) → AreGone old new gone → AllByRecursion (InPageArea old.geometry) gone
+      → free_count old.geometry (used_at old.units) Page + unmoved after (nodes_moved d disk dense version) + length gone
+      ≤ free_count old.geometry (used_at new.units) Page + unmoved moves (nodes_moved d disk dense version)
+  pub segs : (gone : List ℕ) → AreGone old new gone → AllByRecursion (NamesLeaf old.geometry) gone → ((p : ℕ) → NamesLeaf old.geometry p → IsGone old new p → Has gone p)
+      → free_count old.geometry (used_at old.units) Segment + unmoved after (leaves_moved d disk dense version) + length gone
+      ≡ free_count old.geometry (used_at new.units) Segment + unmoved moves (leaves_moved d disk dense version)
 
 -- ---- faults
 
@@ -117,3 +139,10 @@ TellsDamage Disk = ⊥
 TellsDamage Memory = ⊥
 TellsDamage (Damaged page want got) = Unit {0}
 TellsDamage (NoPages need free) = ⊥
+
+-- the fault isn't that of an object that lacks pages
+abbrev pub NeverLacks : PackFault → Type 0
+NeverLacks Disk = Unit {0}
+NeverLacks Memory = Unit {0}
+NeverLacks (Damaged page want got) = Unit {0}
+NeverLacks (NoPages need free) = ⊥

@@ -7,15 +7,15 @@ ghost use Rattle.disk_model.specs.Outside.{DiskOnly, Leaves};
 ghost use Rattle.compact.specs.High.{free_below, need_of};
 ghost use Rattle.page_alloc.specs.UnitSet.{used_at};
 ghost use Rattle.volume_model.specs.Committed.{StandsForVolume};
-ghost use Rattle.object_files.specs.Catalog.{FileEntry};
+ghost use Rattle.object_files.specs.Catalog.{Catalog, CatalogOf, FileEntry};
 ghost use Rattle.version_lists.specs.declared.version.Object.{Object};
-ghost use Rattle.table_model.specs.Tables.{objects_of};
-ghost use Rattle.volume_model.specs.Volume.{Decoded, FileContent, file_of, table_of, units_of};
+ghost use Rattle.volume_model.specs.Volume.{Decoded, FileContent, file_of, units_of};
 ghost use Rattle.volume_port.specs.Reading.{CanRead};
 ghost use Rattle.volume_port.specs.State.{IsAtRest};
-ghost use Rattle.packing.specs.Loop.{AreOfObject, AreRootsIn, HasFileAs, HasFileNo, HasListed, IfLacking, IsOfOne, IsPacking, LacksIn, PacksUntil, ReadsAtRest, roots_of};
-ghost use Rattle.packing.specs.Packing.{HoldsTableOf, IsPacked, LacksPages, StopsLacking, pages_free};
-ghost use Rattle.packing.specs.Resting.{IsIdle, IsStartOf, PackCause, TellsDamage};
+ghost use Rattle.packing.specs.Dense.{HasEnough, IsFirstLacking, all_objects, need_in};
+ghost use Rattle.packing.specs.Loop.{AreOfObject, AreRootsIn, HasFileAs, HasFileNo, HasListed, HaveEnough, IsOfOne, IsPacking, PacksUntil, ReadsAtRest, roots_of};
+ghost use Rattle.packing.specs.Packing.{HoldsTableOf, IfLacking, IsPacked, KeepsTable, LacksPages, StopsLacking, pages_free};
+ghost use Rattle.packing.specs.Resting.{IsIdle, IsStartOf, NeverLacks, PackCause, TellsDamage};
 
 use crate::fault::PackFault;
 use crate::install::install;
@@ -100,6 +100,19 @@ fn read_catalog<D: Disk>(
     let mut bytes = Vec::with_capacity(alloc, page.len())?;
     bytes.extend_from_slice(page)?;
     Ok(bytes)
+}
+
+/// The number of the last transaction, of the bytes of a catalog's page.
+fn last_in(page: &[u8]) -> Result<u64, PortFault>
+    ensures last { IfOk result (λ last. (catalog : Catalog) → CatalogOf page.now catalog
+        → last ≡ catalog.last) }
+    ensures sound { IfErr result (λ fault. (catalog : Catalog) → CatalogOf page.now catalog → ⊥) }
+    ensures cause { (before now : ℕ) → HasCause before now result }
+{
+    let Some(view) = CatalogView::of(page) else {
+        return Err(NO_CATALOG);
+    };
+    Ok(view.last_txn())
 }
 
 /// Lists the large versions of the objects of a file, in the order in which they are moved.
@@ -194,26 +207,30 @@ fn pack_object<D: Disk>(
     ensures idle { OnOk result (IsIdle (D.outside disk.new).size volume.new) }
     ensures geometry { volume.new.geometry ≡ volume.old.geometry }
     ensures only { DiskOnly (D.outside disk.old) (D.outside disk.new) }
-    ensures moved { OnOk result ((d : Decoded) (image : List ℕ)
-        → IsAtRest (D.outside disk.old) volume.old d image → IsStartOf d image start.now
-        → (later : List Object) (object : Object) → IsPacking volume.old d image start.now
-        (object ∷ later) → AreOfObject d.volume object versions.now
+    ensures moved { OnOk result ((d : Decoded) (image : List ℕ) (later : List Object)
+        (object : Object)
+        → IsPacking (D.outside disk.old) volume.old d image start.now (object ∷ later)
+        → AreOfObject d.volume object versions.now
         → PacksUntil (D.outside disk.new) volume.new d image start.now later) }
+
+    // Where the object lacks pages it is told, and nowhere else.
+    ensures enough { OnOk result ((d : Decoded) (image : List ℕ) (object : Object)
+        → IsAtRest (D.outside disk.old) volume.old d image
+        → AreOfObject d.volume object versions.now
+        → HasEnough d image start.now.segs start.now.pages object) }
     ensures lacks { IfErr result (λ why. IfLacking why (λ need free. (d : Decoded)
-        (image : List ℕ) → IsAtRest (D.outside disk.old) volume.old d image
-        → (free ≡ start.now.pages)
-        × (need ≡ need_of d.geometry start.now.segs (units_of d image) (roots_of versions.now))
+        (image : List ℕ) (object : Object) → IsAtRest (D.outside disk.old) volume.old d image
+        → AreOfObject d.volume object versions.now
+        → (free ≡ start.now.pages) × (need ≡ need_in d image start.now.segs object)
         × (free < need))) }
-    ensures any_moment { (d : Decoded) (image : List ℕ)
-        → IsAtRest (D.outside disk.old) volume.old d image → IsStartOf d image start.now
-        → (later : List Object) (object : Object) → IsPacking volume.old d image start.now
-        (object ∷ later) → AreOfObject d.volume object versions.now
-        → Leaves (D.outside disk.old) (D.outside disk.new) (StandsForVolume d image)
-        × HoldsTableOf (D.outside disk.new) d image }
+    ensures keeps { (d : Decoded) (image : List ℕ) (later : List Object) (object : Object)
+        → IsPacking (D.outside disk.old) volume.old d image start.now (object ∷ later)
+        → AreOfObject d.volume object versions.now
+        → KeepsTable (D.outside disk.old) (D.outside disk.new) d image }
     ensures sound { IfErr result (λ why. TellsDamage why → (d : Decoded) (image : List ℕ)
-        → IsAtRest (D.outside disk.old) volume.old d image → IsStartOf d image start.now
-        → (later : List Object) (object : Object) → IsPacking volume.old d image start.now
-        (object ∷ later) → AreOfObject d.volume object versions.now → ⊥) }
+        (later : List Object) (object : Object)
+        → IsPacking (D.outside disk.old) volume.old d image start.now (object ∷ later)
+        → AreOfObject d.volume object versions.now → ⊥) }
     ensures cause { IfErr result (PackCause (D.outside disk.old) (D.outside disk.new)) }
 {
     let need = pages_needed(alloc, disk, volume, room, versions, start.segs)?;
@@ -221,6 +238,42 @@ fn pack_object<D: Disk>(
     if free < need {
         return Err(PackFault::NoPages { need, free });
     }
+    move_versions(alloc, disk, volume, room, start, versions)
+}
+
+/// Moves these versions of one object, for whose nodes pages are free.
+fn move_versions<D: Disk>(
+    alloc: Global,
+    disk: &mut D,
+    volume: &mut VolumeState,
+    room: &mut PageRoom,
+    start: &Start,
+    versions: &[LargeVersion],
+) -> Result<(), PackFault>
+    requires ready { IsIdle (D.outside disk.old).size volume.old }
+    requires catalog { length start.now.catalog.items ≡ volume.old.geometry.page_size }
+    ensures idle { OnOk result (IsIdle (D.outside disk.new).size volume.new) }
+    ensures geometry { volume.new.geometry ≡ volume.old.geometry }
+    ensures only { DiskOnly (D.outside disk.old) (D.outside disk.new) }
+    ensures moved { OnOk result ((d : Decoded) (image : List ℕ) (later : List Object)
+        (object : Object)
+        → IsPacking (D.outside disk.old) volume.old d image start.now (object ∷ later)
+        → AreOfObject d.volume object versions.now
+        → HasEnough d image start.now.segs start.now.pages object
+        → PacksUntil (D.outside disk.new) volume.new d image start.now later) }
+    ensures told { IfErr result NeverLacks }
+    ensures keeps { (d : Decoded) (image : List ℕ) (later : List Object) (object : Object)
+        → IsPacking (D.outside disk.old) volume.old d image start.now (object ∷ later)
+        → AreOfObject d.volume object versions.now
+        → HasEnough d image start.now.segs start.now.pages object
+        → KeepsTable (D.outside disk.old) (D.outside disk.new) d image }
+    ensures sound { IfErr result (λ why. TellsDamage why → (d : Decoded) (image : List ℕ)
+        (later : List Object) (object : Object)
+        → IsPacking (D.outside disk.old) volume.old d image start.now (object ∷ later)
+        → AreOfObject d.volume object versions.now
+        → HasEnough d image start.now.segs start.now.pages object → ⊥) }
+    ensures cause { IfErr result (PackCause (D.outside disk.old) (D.outside disk.new)) }
+{
     let mut moves = Moves::make(alloc);
     for version in versions {
         install(alloc, disk, volume, room, start, version, &mut moves)?;
@@ -261,28 +314,31 @@ fn pack_file<D: Disk>(
     ensures idle { OnOk result (IsIdle (D.outside disk.new).size volume.new) }
     ensures geometry { volume.new.geometry ≡ volume.old.geometry }
     ensures only { DiskOnly (D.outside disk.old) (D.outside disk.new) }
-    ensures moved { OnOk result ((d : Decoded) (image : List ℕ)
-        → IsAtRest (D.outside disk.old) volume.old d image → IsStartOf d image start.now
-        → (e : FileEntry) (f : FileContent) (later : List Object) → HasFileAs d.volume e f
-        → e.file_no ≡ file_no → IsPacking volume.old d image start.now
+    ensures moved { OnOk result ((d : Decoded) (image : List ℕ) (e : FileEntry) (f : FileContent)
+        (later : List Object) → HasFileAs d.volume e f → e.file_no ≡ file_no
+        → IsPacking (D.outside disk.old) volume.old d image start.now
         ((file_of (units_of d image) (e, f)).objects ++ later)
         → PacksUntil (D.outside disk.new) volume.new d image start.now later) }
-    ensures lacks { IfErr result (λ why. IfLacking why (λ need free. (d : Decoded)
-        (image : List ℕ) → IsAtRest (D.outside disk.old) volume.old d image
-        → (e : FileEntry) (f : FileContent) → HasFileAs d.volume e f → e.file_no ≡ file_no
-        → (free ≡ start.now.pages) × LacksIn d image start.now need
-        (file_of (units_of d image) (e, f)).objects)) }
-    ensures any_moment { (d : Decoded) (image : List ℕ)
-        → IsAtRest (D.outside disk.old) volume.old d image → IsStartOf d image start.now
-        → (e : FileEntry) (f : FileContent) (later : List Object) → HasFileAs d.volume e f
-        → e.file_no ≡ file_no → IsPacking volume.old d image start.now
+    ensures enough { OnOk result ((d : Decoded) (image : List ℕ) (e : FileEntry) (f : FileContent)
+        (later : List Object) → HasFileAs d.volume e f → e.file_no ≡ file_no
+        → IsPacking (D.outside disk.old) volume.old d image start.now
         ((file_of (units_of d image) (e, f)).objects ++ later)
-        → Leaves (D.outside disk.old) (D.outside disk.new) (StandsForVolume d image)
-        × HoldsTableOf (D.outside disk.new) d image }
+        → HaveEnough d image start.now (file_of (units_of d image) (e, f)).objects) }
+    ensures lacks { IfErr result (λ why. IfLacking why (λ need free. (d : Decoded)
+        (image : List ℕ) (e : FileEntry) (f : FileContent) (later : List Object)
+        → HasFileAs d.volume e f → e.file_no ≡ file_no
+        → IsPacking (D.outside disk.old) volume.old d image start.now
+        ((file_of (units_of d image) (e, f)).objects ++ later)
+        → (free ≡ start.now.pages) × IsFirstLacking d image start.now.segs start.now.pages need
+        (file_of (units_of d image) (e, f)).objects)) }
+    ensures keeps { (d : Decoded) (image : List ℕ) (e : FileEntry) (f : FileContent)
+        (later : List Object) → HasFileAs d.volume e f → e.file_no ≡ file_no
+        → IsPacking (D.outside disk.old) volume.old d image start.now
+        ((file_of (units_of d image) (e, f)).objects ++ later)
+        → KeepsTable (D.outside disk.old) (D.outside disk.new) d image }
     ensures sound { IfErr result (λ why. TellsDamage why → (d : Decoded) (image : List ℕ)
-        → IsAtRest (D.outside disk.old) volume.old d image → IsStartOf d image start.now
-        → (e : FileEntry) (f : FileContent) (later : List Object) → HasFileAs d.volume e f
-        → e.file_no ≡ file_no → IsPacking volume.old d image start.now
+        (e : FileEntry) (f : FileContent) (later : List Object) → HasFileAs d.volume e f
+        → e.file_no ≡ file_no → IsPacking (D.outside disk.old) volume.old d image start.now
         ((file_of (units_of d image) (e, f)).objects ++ later) → ⊥) }
     ensures cause { IfErr result (PackCause (D.outside disk.old) (D.outside disk.new)) }
 {
@@ -309,21 +365,21 @@ fn pack_files<D: Disk>(
     ensures geometry { volume.new.geometry ≡ volume.old.geometry }
     ensures only { DiskOnly (D.outside disk.old) (D.outside disk.new) }
     ensures moved { OnOk result ((d : Decoded) (image : List ℕ)
-        → IsAtRest (D.outside disk.old) volume.old d image → IsStartOf d image start.now
-        → IsPacking volume.old d image start.now (objects_of (table_of (units_of d image) d.volume))
+        → IsPacking (D.outside disk.old) volume.old d image start.now (all_objects d image)
         → PacksUntil (D.outside disk.new) volume.new d image start.now []) }
+    ensures enough { OnOk result ((d : Decoded) (image : List ℕ)
+        → IsPacking (D.outside disk.old) volume.old d image start.now (all_objects d image)
+        → HaveEnough d image start.now (all_objects d image)) }
     ensures lacks { IfErr result (λ why. IfLacking why (λ need free. (d : Decoded)
-        (image : List ℕ) → IsAtRest (D.outside disk.old) volume.old d image
-        → (free ≡ start.now.pages) × LacksIn d image start.now need
-        (objects_of (table_of (units_of d image) d.volume)))) }
-    ensures any_moment { (d : Decoded) (image : List ℕ)
-        → IsAtRest (D.outside disk.old) volume.old d image → IsStartOf d image start.now
-        → IsPacking volume.old d image start.now (objects_of (table_of (units_of d image) d.volume))
-        → Leaves (D.outside disk.old) (D.outside disk.new) (StandsForVolume d image)
-        × HoldsTableOf (D.outside disk.new) d image }
+        (image : List ℕ)
+        → IsPacking (D.outside disk.old) volume.old d image start.now (all_objects d image)
+        → (free ≡ start.now.pages) × IsFirstLacking d image start.now.segs start.now.pages need
+        (all_objects d image))) }
+    ensures keeps { (d : Decoded) (image : List ℕ)
+        → IsPacking (D.outside disk.old) volume.old d image start.now (all_objects d image)
+        → KeepsTable (D.outside disk.old) (D.outside disk.new) d image }
     ensures sound { IfErr result (λ why. TellsDamage why → (d : Decoded) (image : List ℕ)
-        → IsAtRest (D.outside disk.old) volume.old d image → IsStartOf d image start.now
-        → IsPacking volume.old d image start.now (objects_of (table_of (units_of d image) d.volume))
+        → IsPacking (D.outside disk.old) volume.old d image start.now (all_objects d image)
         → ⊥) }
     ensures cause { IfErr result (PackCause (D.outside disk.old) (D.outside disk.new)) }
 {
@@ -360,10 +416,7 @@ fn start_of<D: Disk>(
         result }
 {
     let catalog = read_catalog(alloc, disk, volume, room)?;
-    let Some(view) = CatalogView::of(&catalog) else {
-        return Err(NO_CATALOG);
-    };
-    let last = view.last_txn();
+    let last = last_in(&catalog)?;
     Ok(Start {
         catalog,
         last,
