@@ -1,4 +1,9 @@
-pub mod Installing
 pub mod LowUnits
 pub mod Sharing
+pub mod Installing
 pub mod Away
+pub mod Totals
+pub mod Reading
+pub mod Trees
+pub mod Listing
+pub mod Counted

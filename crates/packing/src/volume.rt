@@ -2,7 +2,7 @@
 ghost use Rattle.std.specs.Prelude.{◌≡◌, ◌≤◌, ◌<◌, ◌++◌, [], ◌∷◌, ℕ, List, length, Err, IfErr, IfOk, OnOk, MatchResult};
 ghost use Rattle.ex_base.specs.declared.names.Area.TheVariants.{Segment};
 ghost use Rattle.ex_base.specs.Area.{catalog_no, unit_at};
-ghost use Rattle.ex_base.specs.Ports.{HasCause, IsDamage};
+ghost use Rattle.ex_base.specs.Ports.{HasCause, IsDamage, Keeps};
 ghost use Rattle.disk_model.specs.Outside.{DiskOnly, Leaves};
 ghost use Rattle.compact.specs.High.{free_below, need_of};
 ghost use Rattle.page_alloc.specs.UnitSet.{used_at};
@@ -68,6 +68,30 @@ fn free_among(units: &Units, geometry: &Geometry, count: u32) -> u32
     free
 }
 
+/// Copies bytes.
+fn copy_of(alloc: Global, bytes: &[u8]) -> Result<Vec<u8>, AllocError>
+    ensures { IfOk result (λ copy. copy.items ≡ bytes.now) }
+{
+    let mut copy = Vec::with_capacity(alloc, bytes.len())?;
+    copy.extend_from_slice(bytes)?;
+    Ok(copy)
+}
+
+/// The bytes of the catalog's page.
+fn catalog_bytes<P: ReadPages>(pages: &mut P, alloc: Global) -> Result<Vec<u8>, PortFault>
+    requires { P.ready pages.old }
+    ensures bytes { IfOk result (λ page. P.tells pages.old
+        → page.items ≡ P.image pages.old catalog_no) }
+    ensures len { IfOk result (λ page. length page.items ≡ (P.geometry pages.old).page_size) }
+    ensures no_damage { IfErr result (λ fault. IsDamage fault → ⊥) }
+    ensures kept { Keeps P.Ground pages.old pages.new }
+    ensures cause { HasCause (P.faults pages.old) (P.faults pages.new) result }
+{
+    let page = pages.get(alloc, PageNo::CATALOG)?;
+    let bytes = copy_of(alloc, page)?;
+    Ok(bytes)
+}
+
 /// Reads the bytes of the catalog's page.
 fn read_catalog<D: Disk>(
     alloc: Global,
@@ -96,10 +120,7 @@ fn read_catalog<D: Disk>(
         meta: &volume.meta,
         pages: &volume.pages,
     };
-    let page = port.get(alloc, PageNo::CATALOG)?;
-    let mut bytes = Vec::with_capacity(alloc, page.len())?;
-    bytes.extend_from_slice(page)?;
-    Ok(bytes)
+    catalog_bytes(&mut port, alloc)
 }
 
 /// The number of the last transaction, of the bytes of a catalog's page.
@@ -403,6 +424,7 @@ fn start_of<D: Disk>(
 ) -> Result<Start, PortFault>
     requires ready { CanRead volume.old.geometry (D.outside disk.old).size volume.old.groups 0
         volume.old.meta }
+    requires counted { volume.old.units.geometry ≡ volume.old.geometry }
     ensures keeps { ReadsAtRest (D.outside disk.old) (D.outside disk.new) volume.old volume.new }
     ensures start { IfOk result (λ start. (d : Decoded) (image : List ℕ)
         → IsAtRest (D.outside disk.old) volume.old d image → IsStartOf d image start) }
