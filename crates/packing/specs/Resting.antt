@@ -1,14 +1,14 @@
 -- A volume at rest of which trees are moved.
-use Rattle.std.specs.Prelude.{◌≡◌, ◌≢◌, ◌≤◌, ◌⊎◌, ◌+◌, ℕ, true, List, [], ◌∷◌, Some, Contains, ⊤}
+use Rattle.std.specs.Prelude.{◌≡◌, ◌≢◌, ◌≤◌, ◌⊎◌, ◌+◌, ℕ, Bool, true, false, List, [], ◌∷◌, Some, Contains, ⊤}
 use Rattle.std.specs.List.{AllByRecursion}
-use Rattle.ex_base.specs.declared.names.Area.TheVariants.{Page}
+use Rattle.ex_base.specs.declared.names.Area.TheVariants.{Page, Segment}
 use Rattle.ex_base.specs.declared.names.PageNo.{PageNo}
 use Rattle.ex_base.specs.declared.names.Root.{Root}
 use Rattle.ex_base.specs.Area.{catalog_no}
 use Rattle.disk_model.specs.Outside.{Outside, Rose}
 use Rattle.object_records.specs.Record.{Large}
 use Rattle.page_alloc.specs.UnitSet.{free_count, used_at}
-use Rattle.trees.specs.Made.{Has}
+use Rattle.trees.specs.Made.{AreUsed, Has}
 use Rattle.trees.specs.Trees.{IsNamed, root_units, units_on}
 use Rattle.compact.specs.Moved.{Copies, IsSoundPair, nodes_left, leaves_left, unmoved}
 use Rattle.compact.specs.High.{each_once, free_below, root_high_leaves, root_nodes_above}
@@ -30,11 +30,12 @@ pub record IsIdle (size : ℕ) (volume : VolumeState) : Type 0 where
   pub working : volume.meta.working ≡ []
   pub committed : volume.meta.committed ≡ []
 
--- A volume has the table of another one, its geometry, its catalog and the pages of its files.
+-- A volume has the table of another one, its geometry, its catalog in the same bytes, and the pages of its files.
 pub record IsSameBut (d : Decoded) (disk : List ℕ) (now : Decoded) (image : List ℕ) : Type 0 where
   pub geometry : now.geometry ≡ d.geometry
   pub table : table_of (units_of now image) now.volume ≡ table_of (units_of d disk) d.volume
   pub catalog : now.volume.catalog ≡ d.volume.catalog
+  pub page : units_of now image catalog_no ≡ units_of d disk catalog_no
   pub pages : file_pages now.volume ≡ file_pages d.volume
 
 -- What was read before the first version is so of the volume: the bytes of its catalog, the number of its last transaction.
@@ -77,13 +78,21 @@ pub record RestsAgain (w : Outside) (volume : VolumeState) (d : Decoded) (disk :
   pub rests : IsAtRest w volume decoded image
   pub same : IsSameBut d disk decoded image
 
--- One version was moved: its tree has no high leaf, and each other record is as it was. It paid for the nodes and leaves that got copies, and gave back what no other
--- tree has. The new copies are sound and own to the object, and stand in the new tree.
+-- the nodes above high leaves of a root's tree, and its high leaves, each once
+abbrev pub nodes_of : Decoded → List ℕ → ℕ → Root → List ℕ
+nodes_of d disk dense root = each_once (root_nodes_above d.geometry dense (units_of d disk) root)
+
+abbrev pub leaves_of : Decoded → List ℕ → ℕ → Root → List ℕ
+leaves_of d disk dense root = each_once (root_high_leaves d.geometry dense (units_of d disk) root)
+
+-- One version was moved: its tree has no high leaf, and each other record is as it was. Between the move and the release of the old tree it had paid for the nodes
+-- and leaves that got copies; what was taken stays in use. Each copy of a unit of the old tree is sound while its units are in use, and a new one stands in the new tree.
 pub record MovesVersion (w : Outside) (old new : VolumeState) (d : Decoded) (disk : List ℕ) (dense : ℕ) (moves after : Copies) (version : LargeVersion) : Type 0 where
   pub again : RestsAgain w new d disk
   pub made : Root
   -- the records: this one has another root, in its place and with its head
   pub others : (s : Stored) → Contains (stored_in d.volume) s → (oid_of s ≡ version.oid → ⊥) → Contains (stored_in again.decoded.volume) s
+  pub stored : (s : Stored) → Contains (stored_in again.decoded.volume) s → (oid_of s ≡ version.oid → ⊥) → Contains (stored_in d.volume) s
   pub moved : Stored
   pub there : Contains (stored_in again.decoded.volume) moved
   pub oid : oid_of moved ≡ version.oid
@@ -94,13 +103,17 @@ pub record MovesVersion (w : Outside) (old new : VolumeState) (d : Decoded) (dis
   -- the copies
   pub fresh : (page : ℕ) (copy : PageNo) → after page ≡ Some copy
       → (moves page ≡ Some copy) ⊎ (Has (root_units (units_of d disk) version.root) page × Has (root_units (units_of again.decoded again.image) made) copy.0)
-  pub copies : (level page : ℕ) (copy : PageNo) → Has (root_units (units_of d disk) version.root) page → after page ≡ Some copy → (moves page ≡ Some copy → ⊥)
-      → IsNamed d.geometry (units_of d disk) level page → IsOwnCopy new again.decoded again.image dense moved level page copy
-  -- what was taken, and what is free then
-  pub pages : free_count old.geometry (used_at old.units) Page + unmoved after (each_once (root_nodes_above d.geometry dense (units_of d disk) version.root))
-      ≤ free_count old.geometry (used_at new.units) Page + unmoved moves (each_once (root_nodes_above d.geometry dense (units_of d disk) version.root))
-  pub leaves : free_below d.geometry (used_at old.units) dense + unmoved after (each_once (root_high_leaves d.geometry dense (units_of d disk) version.root))
-      ≡ free_below d.geometry (used_at new.units) dense + unmoved moves (each_once (root_high_leaves d.geometry dense (units_of d disk) version.root))
+  pub each : AllByRecursion (λ page. (copy : PageNo) × (after page ≡ Some copy)) (root_high_leaves d.geometry dense (units_of d disk) version.root)
+  pub sound : (level page : ℕ) (copy : PageNo) → Has (root_units (units_of d disk) version.root) page → after page ≡ Some copy → IsNamed d.geometry (units_of d disk) level page
+      → (in_use : ℕ → Bool) → AreUsed in_use (units_on (units_of again.decoded again.image) level copy.0)
+      → IsSoundPair d.geometry (units_of again.decoded again.image) in_use dense level page copy.0
+  -- what is in use between the move and the release
+  pub between : ℕ → Bool
+  pub kept : (u : ℕ) → used_at old.units u ≡ true → between u ≡ true
+  pub fewer : (u : ℕ) → used_at new.units u ≡ true → between u ≡ true
+  pub stay : (u : ℕ) → used_at old.units u ≡ false → between u ≡ true → used_at new.units u ≡ true
+  pub pages : free_count old.geometry (used_at old.units) Page + unmoved after (nodes_of d disk dense version.root) ≤ free_count old.geometry between Page + unmoved moves (nodes_of d disk dense version.root)
+  pub segs : free_count old.geometry (used_at old.units) Segment + unmoved after (leaves_of d disk dense version.root) ≡ free_count old.geometry between Segment + unmoved moves (leaves_of d disk dense version.root)
 
 -- ---- faults
 
@@ -117,3 +130,10 @@ TellsDamage Disk = ⊥
 TellsDamage Memory = ⊥
 TellsDamage (Damaged page want got) = Unit {0}
 TellsDamage (NoPages need free) = ⊥
+
+-- The fault doesn't tell of pages that are lacking.
+abbrev pub NeverLacks : PackFault → Type 0
+NeverLacks Disk = ⊤
+NeverLacks Memory = ⊤
+NeverLacks (Damaged page want got) = ⊤
+NeverLacks (NoPages need free) = ⊥

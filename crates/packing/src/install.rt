@@ -9,7 +9,7 @@ ghost use Rattle.volume_model.specs.Volume.{Decoded};
 ghost use Rattle.volume_port.specs.State.{AreReady, IsAtRest, Moved};
 ghost use Rattle.tree_store.specs.Stored.{NoUnit};
 ghost use Rattle.packing.specs.Packing.{HoldsTableOf};
-ghost use Rattle.packing.specs.Resting.{HasOwnCopies, HasRoomFor, IsIdle, IsStartOf, MovesVersion, PackCause, TellsDamage};
+ghost use Rattle.packing.specs.Resting.{HasOwnCopies, HasRoomFor, IsIdle, IsStartOf, MovesVersion, NeverLacks, PackCause, TellsDamage};
 
 use crate::fault::PackFault;
 use crate::moving::move_version;
@@ -39,6 +39,8 @@ fn move_working<D: Disk>(
     ensures keeps { KeepsCopies (copies_of moves.old) (copies_of moves.new) }
     ensures touches { OnOk result
         (length volume.new.meta.working ≤ length volume.old.meta.working + 1) }
+    ensures still { IfOk result (λ made. made ≡ version.now.root
+        → length volume.new.meta.working ≡ length volume.old.meta.working) }
     ensures sound { IfErr result (λ fault. IsDamage fault → (d : Decoded) (image : List ℕ)
         → IsAtRest (D.outside disk.old) volume.old d image
         → HasOwnCopies volume.old d image dense (copies_of moves.old) version.now
@@ -93,6 +95,7 @@ fn settle<D: Disk>(
     requires few { length volume.old.meta.working ≤ 1 }
     ensures idle { OnOk result (IsIdle (D.outside disk.new).size volume.new) }
     ensures only { DiskOnly (D.outside disk.old) (D.outside disk.new) }
+    ensures told { IfErr result NeverLacks }
     ensures cause { IfErr result (PackCause (D.outside disk.old) (D.outside disk.new)) }
 {
     volume.meta.edit(alloc, PageNo::CATALOG, &start.catalog)?;
@@ -163,6 +166,7 @@ pub(crate) fn install<D: Disk>(
         → HasOwnCopies volume.old d image start.now.segs (copies_of moves.old) version.now
         → HasRoomFor volume.old d image start.now.segs (copies_of moves.old) version.now.root
         → ⊥) }
+    ensures told { IfErr result NeverLacks }
     ensures cause { IfErr result (PackCause (D.outside disk.old) (D.outside disk.new)) }
 {
     let made = move_working(alloc, disk, volume, room, version, start.segs, moves)?;
