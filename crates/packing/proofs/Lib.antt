@@ -1,7 +1,10 @@
+pub mod Installing
 pub mod LowUnits
 pub mod Sharing
-pub mod Installing
 pub mod Away
+pub mod PlaceOrder
+pub mod LeastNumbers
+pub mod LargeVersions
 pub mod Totals
 pub mod Reading
 pub mod Trees

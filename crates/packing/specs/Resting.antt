@@ -1,15 +1,14 @@
 -- A volume at rest of which trees are moved.
-use Rattle.std.specs.Prelude.{◌≡◌, ◌≢◌, ◌≤◌, ◌⊎◌, ◌+◌, ℕ, true, false, List, [], ◌∷◌, length, Some, Contains, ⊤}
+use Rattle.std.specs.Prelude.{◌≡◌, ◌≢◌, ◌≤◌, ◌⊎◌, ◌+◌, ℕ, Bool, true, false, List, [], ◌∷◌, Some, Contains, ⊤}
 use Rattle.std.specs.List.{AllByRecursion}
 use Rattle.ex_base.specs.declared.names.Area.TheVariants.{Page, Segment}
 use Rattle.ex_base.specs.declared.names.PageNo.{PageNo}
 use Rattle.ex_base.specs.declared.names.Root.{Root}
-use Rattle.ex_base.specs.Area.{InPageArea, NamesLeaf, catalog_no}
-use Rattle.ex_base.specs.Ports.{times}
+use Rattle.ex_base.specs.Area.{catalog_no}
 use Rattle.disk_model.specs.Outside.{Outside, Rose}
 use Rattle.object_records.specs.Record.{Large}
 use Rattle.page_alloc.specs.UnitSet.{free_count, used_at}
-use Rattle.trees.specs.Made.{Has}
+use Rattle.trees.specs.Made.{AreUsed, Has}
 use Rattle.trees.specs.Trees.{IsNamed, root_units, units_on}
 use Rattle.compact.specs.Moved.{Copies, IsSoundPair, nodes_left, leaves_left, unmoved}
 use Rattle.compact.specs.High.{each_once, free_below, root_high_leaves, root_nodes_above}
@@ -31,13 +30,13 @@ pub record IsIdle (size : ℕ) (volume : VolumeState) : Type 0 where
   pub working : volume.meta.working ≡ []
   pub committed : volume.meta.committed ≡ []
 
--- A volume has the table of another one, its geometry, its catalog and the pages of its files.
+-- A volume has the table of another one, its geometry, its catalog in the same bytes, and the pages of its files.
 pub record IsSameBut (d : Decoded) (disk : List ℕ) (now : Decoded) (image : List ℕ) : Type 0 where
   pub geometry : now.geometry ≡ d.geometry
   pub table : table_of (units_of now image) now.volume ≡ table_of (units_of d disk) d.volume
   pub catalog : now.volume.catalog ≡ d.volume.catalog
-  pub pages : file_pages now.volume ≡ file_pages d.volume
   pub page : units_of now image catalog_no ≡ units_of d disk catalog_no
+  pub pages : file_pages now.volume ≡ file_pages d.volume
 
 -- What was read before the first version is so of the volume: the bytes of its catalog, the number of its last transaction.
 pub record IsStartOf (d : Decoded) (disk : List ℕ) (start : Start) : Type 0 where
@@ -79,24 +78,15 @@ pub record RestsAgain (w : Outside) (volume : VolumeState) (d : Decoded) (disk :
   pub rests : IsAtRest w volume decoded image
   pub same : IsSameBut d disk decoded image
 
--- the nodes above high leaves of a version, and its high leaves, each once
-abbrev pub nodes_moved : Decoded → List ℕ → ℕ → LargeVersion → List ℕ
-nodes_moved d disk dense version = each_once (root_nodes_above d.geometry dense (units_of d disk) version.root)
+-- the nodes above high leaves of a root's tree, and its high leaves, each once
+abbrev pub nodes_of : Decoded → List ℕ → ℕ → Root → List ℕ
+nodes_of d disk dense root = each_once (root_nodes_above d.geometry dense (units_of d disk) root)
 
-abbrev pub leaves_moved : Decoded → List ℕ → ℕ → LargeVersion → List ℕ
-leaves_moved d disk dense version = each_once (root_high_leaves d.geometry dense (units_of d disk) version.root)
+abbrev pub leaves_of : Decoded → List ℕ → ℕ → Root → List ℕ
+leaves_of d disk dense root = each_once (root_high_leaves d.geometry dense (units_of d disk) root)
 
--- a unit that was in use, and is free
-abbrev pub IsGone : VolumeState → VolumeState → ℕ → Type 0
-IsGone old new u = (used_at old.units u ≡ true) × (used_at new.units u ≡ false)
-
--- these units are free, each of them once
-pub record AreGone (old new : VolumeState) (gone : List ℕ) : Type 0 where
-  pub each : AllByRecursion (IsGone old new) gone
-  pub once : (p : ℕ) → times p gone ≤ 1
-
--- One version was moved: its tree has no high leaf, and each other record is as it was. It paid for the nodes and leaves that got copies, and gave back what no other
--- tree has. Each high leaf has a copy; the copies are sound, and new ones stand in the new tree.
+-- One version was moved: its tree has no high leaf, and each other record is as it was. Between the move and the release of the old tree it had paid for the nodes
+-- and leaves that got copies; what was taken stays in use. Each copy of a unit of the old tree is sound while its units are in use, and a new one stands in the new tree.
 pub record MovesVersion (w : Outside) (old new : VolumeState) (d : Decoded) (disk : List ℕ) (dense : ℕ) (moves after : Copies) (version : LargeVersion) : Type 0 where
   pub again : RestsAgain w new d disk
   pub made : Root
@@ -113,16 +103,17 @@ pub record MovesVersion (w : Outside) (old new : VolumeState) (d : Decoded) (dis
   -- the copies
   pub fresh : (page : ℕ) (copy : PageNo) → after page ≡ Some copy
       → (moves page ≡ Some copy) ⊎ (Has (root_units (units_of d disk) version.root) page × Has (root_units (units_of again.decoded again.image) made) copy.0)
-  pub sound : (level page : ℕ) (copy : PageNo) → Has (root_units (units_of d disk) version.root) page → after page ≡ Some copy
-      → IsNamed d.geometry (units_of d disk) level page → IsSoundPair d.geometry (units_of again.decoded again.image) (used_at new.units) dense level page copy.0
-  pub each : AllByRecursion (λ p. (copy : PageNo) × (after p ≡ Some copy)) (leaves_moved d disk dense version)
-  -- what was taken and given back
-  pub pages : (gone : List ℕ) → AreGone old new gone → AllByRecursion (InPageArea old.geometry) gone
-      → free_count old.geometry (used_at old.units) Page + unmoved after (nodes_moved d disk dense version) + length gone
-      ≤ free_count old.geometry (used_at new.units) Page + unmoved moves (nodes_moved d disk dense version)
-  pub segs : (gone : List ℕ) → AreGone old new gone → AllByRecursion (NamesLeaf old.geometry) gone → ((p : ℕ) → NamesLeaf old.geometry p → IsGone old new p → Has gone p)
-      → free_count old.geometry (used_at old.units) Segment + unmoved after (leaves_moved d disk dense version) + length gone
-      ≡ free_count old.geometry (used_at new.units) Segment + unmoved moves (leaves_moved d disk dense version)
+  pub each : AllByRecursion (λ page. (copy : PageNo) × (after page ≡ Some copy)) (root_high_leaves d.geometry dense (units_of d disk) version.root)
+  pub sound : (level page : ℕ) (copy : PageNo) → Has (root_units (units_of d disk) version.root) page → after page ≡ Some copy → IsNamed d.geometry (units_of d disk) level page
+      → (in_use : ℕ → Bool) → AreUsed in_use (units_on (units_of again.decoded again.image) level copy.0)
+      → IsSoundPair d.geometry (units_of again.decoded again.image) in_use dense level page copy.0
+  -- what is in use between the move and the release
+  pub between : ℕ → Bool
+  pub kept : (u : ℕ) → used_at old.units u ≡ true → between u ≡ true
+  pub fewer : (u : ℕ) → used_at new.units u ≡ true → between u ≡ true
+  pub stay : (u : ℕ) → used_at old.units u ≡ false → between u ≡ true → used_at new.units u ≡ true
+  pub pages : free_count old.geometry (used_at old.units) Page + unmoved after (nodes_of d disk dense version.root) ≤ free_count old.geometry between Page + unmoved moves (nodes_of d disk dense version.root)
+  pub segs : free_count old.geometry (used_at old.units) Segment + unmoved after (leaves_of d disk dense version.root) ≡ free_count old.geometry between Segment + unmoved moves (leaves_of d disk dense version.root)
 
 -- ---- faults
 
@@ -140,9 +131,9 @@ TellsDamage Memory = ⊥
 TellsDamage (Damaged page want got) = Unit {0}
 TellsDamage (NoPages need free) = ⊥
 
--- the fault isn't that of an object that lacks pages
+-- The fault doesn't tell of pages that are lacking.
 abbrev pub NeverLacks : PackFault → Type 0
-NeverLacks Disk = Unit {0}
-NeverLacks Memory = Unit {0}
-NeverLacks (Damaged page want got) = Unit {0}
+NeverLacks Disk = ⊤
+NeverLacks Memory = ⊤
+NeverLacks (Damaged page want got) = ⊤
 NeverLacks (NoPages need free) = ⊥

@@ -39,6 +39,8 @@ fn move_working<D: Disk>(
     ensures keeps { KeepsCopies (copies_of moves.old) (copies_of moves.new) }
     ensures touches { OnOk result
         (length volume.new.meta.working ≤ length volume.old.meta.working + 1) }
+    ensures still { IfOk result (λ made. made ≡ version.now.root
+        → length volume.new.meta.working ≡ length volume.old.meta.working) }
     ensures sound { IfErr result (λ fault. IsDamage fault → (d : Decoded) (image : List ℕ)
         → IsAtRest (D.outside disk.old) volume.old d image
         → HasOwnCopies volume.old d image dense (copies_of moves.old) version.now
