@@ -10,3 +10,9 @@ pub mod Reading
 pub mod Trees
 pub mod Listing
 pub mod Counted
+pub mod Above
+pub mod Given
+pub mod OfObjects
+pub mod Moments
+pub mod KeptPairs
+pub mod Stepping

@@ -20,7 +20,7 @@ abbrev pub total : (ℕ → ℕ) → List ℕ → ℕ
 total f [] = 0
 total f (x ∷ xs) = f x + total f xs
 
-total_less : (f : ℕ → ℕ) (p : ℕ) (xs : List ℕ) → 1 ≤ times p xs → total f (without_one p xs) + f p ≡ total f xs
+pub total_less : (f : ℕ → ℕ) (p : ℕ) (xs : List ℕ) → 1 ≤ times p xs → total f (without_one p xs) + f p ≡ total f xs
 total_less f p [] some = absurd (omega (arith, some))
 total_less f p (x ∷ xs) some = (elim (cases_eq p x) as (λ c. total f (elim c [ inl same ↦ xs | inr other ↦ x ∷ without_one p xs ]) + f p ≡ total f (x ∷ xs)) [
   | inl same ↦ (let e : f p ≡ f x = ap f same in omega (arith, e))
@@ -67,7 +67,7 @@ total_none f (x ∷ xs) none = omega (arith, none x (inl refl), total_none f xs 
 
 -- ---- lengths, and what has no copy
 
-abbrev one_each : ℕ → ℕ
+abbrev pub one_each : ℕ → ℕ
 one_each p = 1
 
 abbrev lacks : Copies → ℕ → ℕ
@@ -77,7 +77,7 @@ lacks moves p = one_without (moves p)
 abbrev pub newly : Copies → Copies → ℕ → ℕ
 newly moves after p = one_without (moves p) - one_without (after p)
 
-total_length : (xs : List ℕ) → total one_each xs ≡ length xs
+pub total_length : (xs : List ℕ) → total one_each xs ≡ length xs
 total_length [] = refl
 total_length (x ∷ xs) = omega (arith, total_length xs)
 
@@ -263,6 +263,10 @@ module _ (xs ys : List ℕ) where
 
     unmoved_own : (copies : Copies) → unmoved copies own ≡ unmoved copies only + unmoved copies both
     unmoved_own copies = omega (arith, total_parted (lacks copies) own only both own_parted, total_unmoved copies own, total_unmoved copies only, total_unmoved copies both)
+
+    -- fewer are left
+    pub fewer_left : length rest ≤ length whole
+    fewer_left = omega (arith, length_whole)
 
     newly_both : total (newly moves after) both ≤ total (newly moves after) rest
     newly_both = total_most (newly moves after) both rest (λ p. inr (both_inside p))

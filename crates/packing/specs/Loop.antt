@@ -1,5 +1,5 @@
 -- What is known between two objects, and between two versions, of a volume that is packed.
-use Rattle.std.specs.Prelude.{◌≡◌, ◌≤◌, ◌+◌, ℕ, true, false, List, [], ◌∷◌, length, map, slice_get, Some, Contains}
+use Rattle.std.specs.Prelude.{◌≡◌, ◌≤◌, ◌+◌, ℕ, true, false, List, [], ◌∷◌, ◌++◌, length, map, slice_get, Some, Contains}
 use Rattle.std.specs.List.{AllByRecursion, flat_map, zip}
 use Rattle.ex_base.specs.Order.{AllDiffer}
 use Rattle.ex_base.specs.declared.names.PageNo.{PageNo}
@@ -19,7 +19,7 @@ use Rattle.volume_model.specs.Volume.{Decoded, FileContent, Stored, Volume, oid_
 use Rattle.volume_port.specs.declared.state.VolumeState.{VolumeState}
 use Rattle.volume_port.specs.Reading.{CanRead}
 use Rattle.volume_port.specs.State.{IsAtRest}
-use Rattle.packing.specs.Dense.{HasEnough, is_of, need_in}
+use Rattle.packing.specs.Dense.{HasEnough, all_objects, is_of, need_in}
 use Rattle.packing.specs.Objects.{AreLargeVersions}
 use Rattle.packing.specs.Packing.{pages_free, segs_used}
 use Rattle.packing.specs.Resting.{IsStartOf, RestsAgain}
@@ -89,11 +89,16 @@ IsOfNone objects s = AllByRecursion (λ (object : Object). is_of object s ≡ fa
 abbrev pub HasLowTree : Decoded → List ℕ → ℕ → Stored → Type 0
 HasLowTree d disk dense s = (root : Root) → s.body.content ≡ Large root → root_high_leaves d.geometry dense (units_of d disk) root ≡ []
 
+-- these are the last objects of the volume's table
+abbrev pub AreLast : Decoded → List ℕ → List Object → Type 0
+AreLast d disk later = (before : List Object) × (all_objects d disk ≡ before ++ later)
+
 -- The volume is at rest, as it was at the start but for places of bytes: as many units of the segment area are in use, and no fewer pages are free. No tree of another
--- object than these has a high leaf.
+-- object than these, which are the last ones, has a high leaf.
 pub record IsPacking (w : Outside) (volume : VolumeState) (d : Decoded) (disk : List ℕ) (start : Start) (later : List Object) : Type 0 where
   pub rests : IsAtRest w volume d disk
   pub since : IsStartOf d disk start
+  pub last : AreLast d disk later
   pub segs : segs_used volume ≡ start.segs
   pub pages : start.pages ≤ pages_free volume
   pub low : (s : Stored) → Contains (stored_in d.volume) s → IsOfNone later s → HasLowTree d disk start.segs s
@@ -151,6 +156,7 @@ pub record IsMoving (w : Outside) (volume : VolumeState) (d : Decoded) (disk : L
     (left : List LargeVersion) : Type 0 where
   pub rests : IsAtRest w volume d disk
   pub since : IsStartOf d disk start
+  pub last : AreLast d disk (object ∷ later)
   pub pages : start.pages + unmoved moves (nodes_high d disk start.segs left) ≤ pages_free volume + length (nodes_high d disk start.segs left)
   pub segs : segs_used volume + unmoved moves (leaves_high d disk start.segs left) ≡ start.segs + length (leaves_high d disk start.segs left)
   pub enough : length (nodes_high d disk start.segs left) ≤ start.pages
@@ -158,3 +164,10 @@ pub record IsMoving (w : Outside) (volume : VolumeState) (d : Decoded) (disk : L
   pub once : AllDiffer (map number_of left)
   pub copies : AllByRecursion (HasHeldCopies volume d disk start.segs moves object left) left
   pub low : (s : Stored) → Contains (stored_in d.volume) s → IsOfNone later s → IsOther left s → HasLowTree d disk start.segs s
+
+-- The volume is at rest again, the same but for places of bytes, with these versions of the object left. Later objects were left as they were.
+pub record MovesUntil (w : Outside) (volume : VolumeState) (d : Decoded) (disk : List ℕ) (start : Start) (object : Object) (later : List Object) (moves : Copies)
+    (left : List LargeVersion) : Type 0 where
+  pub again : RestsAgain w volume d disk
+  pub moving : IsMoving w volume again.decoded again.image start object later moves left
+  pub needs : AllByRecursion (NeedsAsMuch d disk again.decoded again.image start.segs) later

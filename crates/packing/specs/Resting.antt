@@ -11,7 +11,7 @@ use Rattle.page_alloc.specs.UnitSet.{free_count, used_at}
 use Rattle.trees.specs.Made.{AreUsed, Has}
 use Rattle.trees.specs.Trees.{IsNamed, root_units, units_on}
 use Rattle.compact.specs.Moved.{Copies, IsSoundPair, nodes_left, leaves_left, unmoved}
-use Rattle.compact.specs.High.{each_once, free_below, root_high_leaves, root_nodes_above}
+use Rattle.compact.specs.High.{each_once, free_below, root_high_leaves, root_low_leaves, root_nodes_above}
 use Rattle.volume_model.specs.Volume.{Decoded, Stored, file_pages, oid_of, stored_in, table_of, units_of}
 use Rattle.volume_moves.specs.Moves.{IsOfNoOther}
 use Rattle.volume_port.specs.declared.state.VolumeState.{VolumeState}
@@ -100,6 +100,7 @@ pub record MovesVersion (w : Outside) (old new : VolumeState) (d : Decoded) (dis
   pub high : root_high_leaves d.geometry dense (units_of again.decoded again.image) made ≡ []
   -- Each unit in use before, but a page of a file, keeps its bytes.
   pub units : (u : ℕ) → used_at old.units u ≡ true → (Contains (catalog_no ∷ file_pages d.volume) u → ⊥) → units_of again.decoded again.image u ≡ units_of d disk u
+  pub low : AllByRecursion (Has (root_units (units_of again.decoded again.image) made)) (root_low_leaves d.geometry dense (units_of d disk) version.root)
   -- the copies
   pub fresh : (page : ℕ) (copy : PageNo) → after page ≡ Some copy
       → (moves page ≡ Some copy) ⊎ (Has (root_units (units_of d disk) version.root) page × Has (root_units (units_of again.decoded again.image) made) copy.0)
