@@ -16,3 +16,4 @@ pub mod OfObjects
 pub mod Moments
 pub mod KeptPairs
 pub mod Stepping
+pub mod Ends

@@ -66,7 +66,7 @@ has_unit [] u h = absurd h
 has_unit (x ∷ xs) u (inl e) = inl (sym e)
 has_unit (x ∷ xs) u (inr h) = inr (has_unit xs u h)
 
-in_list : {A : Type 0} (xs : List A) (x : A) → In x xs → lists.Has xs x
+pub in_list : {A : Type 0} (xs : List A) (x : A) → In x xs → lists.Has xs x
 in_list [] x h = absurd h
 in_list (y ∷ xs) x (inl e) = inl (sym e)
 in_list (y ∷ xs) x (inr h) = inr (in_list xs x h)
@@ -134,12 +134,12 @@ root_of volume f o p r =
     (into_flat (λ (x : Stored). root_in x.body.content) r.root r.stored (filter (is_of o) (stored_in volume)) (kept_in (is_of o) (stored_in volume) r.stored r.there r.same)
     (subst (λ (c : Content). In r.root (root_in c)) (sym r.large) (inl refl))) r.has
 
-one_most : (o : Option PageNo) → one_without o ≤ 1
+pub one_most : (o : Option PageNo) → one_without o ≤ 1
 one_most None = omega arith
 one_most (Some copy) = omega arith
 
 -- units of the segment area lie one after the other
-ahead : (g : Geometry) (i j : ℕ) → i < j → unit_at g Segment i < unit_at g Segment j
+pub ahead : (g : Geometry) (i j : ℕ) → i < j → unit_at g Segment i < unit_at g Segment j
 ahead g i j lt = omega (arith, mul-le (i + 1) g.seg_len j g.seg_len (omega arith) (omega arith), g.some_length)
 
 -- whether one of these versions has a number
@@ -162,7 +162,7 @@ module _ (w : Outside) (volume : VolumeState) (d : Decoded) (disk : List ℕ) (r
   abbrev units_here : Units
   units_here = units_of d disk
 
-  whole : AllByRecursion (HoldsOf d.geometry d.records (units_of d disk) d.volume) content_parts
+  pub whole : AllByRecursion (HoldsOf d.geometry d.records (units_of d disk) d.volume) content_parts
   whole = rests.committed.parts.1.1
 
   pub distinct : AllPairs Differ (flat_map (λ (o : Object). o.versions) (all_objects d disk))
@@ -544,35 +544,35 @@ module _ (w z : Outside) (old new : VolumeState) (d : Decoded) (disk : List ℕ)
     isnt = leaf_gone;
   }
 
-  leaves_all : (j : ℕ) → j < old.geometry.segs → x.between (unit_at old.geometry Segment j) ≡ true → used_at new.units (unit_at old.geometry Segment j) ≡ false → Has (only_in leaves_own leaves_rest) (unit_at old.geometry Segment j)
-  leaves_all j lt is isnt = just (unit_at old.geometry Segment j) (subst (λ (g : Geometry). NamesLeaf g (unit_at old.geometry Segment j)) (sym m.rests.geometry) (j, lt, refl)) is isnt
-    where
-      from_here : (p : ℕ) → NamesLeaf d.geometry p → used_at new.units p ≡ false → Has (root_units u version.root) p → Has (only_in leaves_own leaves_rest) p
-      from_here p leaf isnt has = elim (cases_Bool (is_high d.geometry dense p)) [
-        | inr low ↦ absurd (true≢false (sym (in_use z new now image x.again.rests x.made made_root p
-            (has_each (Has (root_units v x.made)) (root_low_leaves d.geometry dense u version.root) p x.low (root_low_in d.geometry dense u version.root.height version.root.page p own_named leaf low has))) ∙ isnt))
-        | inl high ↦
-            only_has leaves_own leaves_rest p (root_leaf_in d.geometry dense u version.root.height version.root.page p own_named (record { named = leaf; high = high }) has) (λ rest.
-            (let found = in_version (root_high_leaves d.geometry dense u) left p rest in
-            let there = root_leaf_of d.geometry dense u found.0.root.height found.0.root.page p (named w old d disk m.rests found.0.root (left_root found.0 found.1)) found.2 in
-            let is_left = of_left found.0 found.1 in
-            true≢false (sym (stays_used is_left.0 found.0.root (left_here found.0 found.1) is_left.1.large (left_apart found.0 found.1) p there.1) ∙ isnt)))
-      ]
+  leaf_given : (p : ℕ) → NamesLeaf d.geometry p → used_at new.units p ≡ false → Has (root_units u version.root) p → Has (only_in leaves_own leaves_rest) p
+  leaf_given p leaf isnt has = elim (cases_Bool (is_high d.geometry dense p)) [
+    | inr low ↦ absurd (true≢false (sym (in_use z new now image x.again.rests x.made made_root p
+        (has_each (Has (root_units v x.made)) (root_low_leaves d.geometry dense u version.root) p x.low (root_low_in d.geometry dense u version.root.height version.root.page p own_named leaf low has))) ∙ isnt))
+    | inl high ↦
+        only_has leaves_own leaves_rest p (root_leaf_in d.geometry dense u version.root.height version.root.page p own_named (record { named = leaf; high = high }) has) (λ rest.
+        (let found = in_version (root_high_leaves d.geometry dense u) left p rest in
+        let there = root_leaf_of d.geometry dense u found.0.root.height found.0.root.page p (named w old d disk m.rests found.0.root (left_root found.0 found.1)) found.2 in
+        let is_left = of_left found.0 found.1 in
+        true≢false (sym (stays_used is_left.0 found.0.root (left_here found.0 found.1) is_left.1.large (left_apart found.0 found.1) p there.1) ∙ isnt)))
+  ]
 
-      just : (p : ℕ) → NamesLeaf d.geometry p → x.between p ≡ true → used_at new.units p ≡ false → Has (only_in leaves_own leaves_rest) p
-      just p leaf is isnt = elim (cases_Bool (used_at old.units p)) [
-        | inr unused ↦ absurd (true≢false (sym (x.stay p unused is) ∙ isnt))
-        | inl used ↦
-            let t = standing w old d disk m.rests p used (leaf_off p leaf) in
-            elim (same_or_not (unique_of t.stored) (number_of version)) [
-              | inr apart ↦ absurd (true≢false (sym (stays_used t.stored t.root t.there t.large apart p t.has) ∙ isnt))
-              | inl same ↦
-                  let is_mine : t.stored ≡ mine.0 = one_record w old d disk m.rests t.stored mine.0 t.there here (same ∙ sym own_number) in
-                  let content : Large t.root ≡ Large version.root = sym t.large ∙ ap (λ (s : Stored). s.body.content) is_mine ∙ mine.1.large in
-                  let root_is : t.root ≡ version.root = cc in
-                  from_here p leaf isnt (subst (λ (r : Root). Has (root_units u r) p) root_is t.has)
-            ]
-      ]
+  just_given : (p : ℕ) → NamesLeaf d.geometry p → x.between p ≡ true → used_at new.units p ≡ false → Has (only_in leaves_own leaves_rest) p
+  just_given p leaf is isnt = elim (cases_Bool (used_at old.units p)) [
+    | inr unused ↦ absurd (true≢false (sym (x.stay p unused is) ∙ isnt))
+    | inl used ↦
+        let t = standing w old d disk m.rests p used (leaf_off p leaf) in
+        elim (same_or_not (unique_of t.stored) (number_of version)) [
+          | inr apart ↦ absurd (true≢false (sym (stays_used t.stored t.root t.there t.large apart p t.has) ∙ isnt))
+          | inl same ↦
+              let is_mine : t.stored ≡ mine.0 = one_record w old d disk m.rests t.stored mine.0 t.there here (same ∙ sym own_number) in
+              let content : Large t.root ≡ Large version.root = sym t.large ∙ ap (λ (s : Stored). s.body.content) is_mine ∙ mine.1.large in
+              let root_is : t.root ≡ version.root = cc in
+              leaf_given p leaf isnt (subst (λ (r : Root). Has (root_units u r) p) root_is t.has)
+        ]
+  ]
+
+  leaves_all : (j : ℕ) → j < old.geometry.segs → x.between (unit_at old.geometry Segment j) ≡ true → used_at new.units (unit_at old.geometry Segment j) ≡ false → Has (only_in leaves_own leaves_rest) (unit_at old.geometry Segment j)
+  leaves_all j lt is isnt = just_given (unit_at old.geometry Segment j) (subst (λ (g : Geometry). NamesLeaf g (unit_at old.geometry Segment j)) (sym m.rests.geometry) (j, lt, refl)) is isnt
 
   copied : (p : ℕ) → Has (only_in leaves_own leaves_rest) p → one_without (after p) ≡ 0
   copied p h =

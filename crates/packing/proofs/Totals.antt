@@ -98,12 +98,12 @@ total_newly moves after (x ∷ xs) keeps = omega (arith, no_more (moves x) (afte
 
 once_back : (xs : List ℕ) (p : ℕ) → Has (each_once xs) p → Has xs p
 once_back [] p has = has
-once_back (x ∷ xs) p has = by_test (nat_eq (times x xs) 0) has
+once_back (x ∷ xs) p has = by_test (λ rest. once_back xs p rest) (nat_eq (times x xs) 0) has
   where
-    by_test : (b : Bool) → Has (if b then x ∷ each_once xs else each_once xs) p → Has (x ∷ xs) p
-    by_test true (inl e) = inl e
-    by_test true (inr rest) = inr (once_back xs p rest)
-    by_test false rest = inr (once_back xs p rest)
+    by_test : (Has (each_once xs) p → Has xs p) → (b : Bool) → Has (if b then x ∷ each_once xs else each_once xs) p → Has (x ∷ xs) p
+    by_test go true (inl e) = inl e
+    by_test go true (inr rest) = inr (go rest)
+    by_test go false rest = inr (go rest)
 
 pub back_once : (xs : List ℕ) (p : ℕ) → Has (each_once xs) p → Has xs p
 back_once xs p has = once_back xs p has
@@ -161,22 +161,22 @@ both_in xs ys = filter (on_test ys) (each_once xs)
 
 passed : (t : ℕ → Bool) (xs : List ℕ) (p : ℕ) → t p ≡ true → times p (filter t xs) ≡ times p xs
 passed t [] p is = refl
-passed t (x ∷ xs) p is = by_test (t x) refl
+passed t (x ∷ xs) p is = by_test (passed t xs p is) (t x) refl
   where
-    by_test : (b : Bool) → t x ≡ b → times p (if b then x ∷ filter t xs else filter t xs) ≡ times p (x ∷ xs)
-    by_test true here = let rest = passed t xs p is in elim (same_or_not p x) [
+    by_test : times p (filter t xs) ≡ times p xs → (b : Bool) → t x ≡ b → times p (if b then x ∷ filter t xs else filter t xs) ≡ times p (x ∷ xs)
+    by_test rest true here = elim (same_or_not p x) [
       | inl same ↦ omega (arith, rest, times_here p x xs same, times_here p x (filter t xs) same)
       | inr differ ↦ omega (arith, rest, times_apart p x xs differ, times_apart p x (filter t xs) differ)
     ]
-    by_test false here = passed t xs p is ∙ sym (times_apart p x xs (λ (same : p ≡ x). absurd (let e : true ≡ false = sym is ∙ ap t same ∙ here in cc)))
+    by_test rest false here = rest ∙ sym (times_apart p x xs (λ (same : p ≡ x). absurd (let e : true ≡ false = sym is ∙ ap t same ∙ here in cc)))
 
 dropped : (t : ℕ → Bool) (xs : List ℕ) (p : ℕ) → t p ≡ false → times p (filter t xs) ≡ 0
 dropped t [] p is = refl
-dropped t (x ∷ xs) p is = by_test (t x) refl
+dropped t (x ∷ xs) p is = by_test (dropped t xs p is) (t x) refl
   where
-    by_test : (b : Bool) → t x ≡ b → times p (if b then x ∷ filter t xs else filter t xs) ≡ 0
-    by_test true here = times_apart p x (filter t xs) (λ (same : p ≡ x). absurd (let e : true ≡ false = sym here ∙ sym (ap t same) ∙ is in cc)) ∙ dropped t xs p is
-    by_test false here = dropped t xs p is
+    by_test : times p (filter t xs) ≡ 0 → (b : Bool) → t x ≡ b → times p (if b then x ∷ filter t xs else filter t xs) ≡ 0
+    by_test rest true here = times_apart p x (filter t xs) (λ (same : p ≡ x). absurd (let e : true ≡ false = sym here ∙ sym (ap t same) ∙ is in cc)) ∙ rest
+    by_test rest false here = rest
 
 off_is : (ys : List ℕ) (p : ℕ) → (Has ys p → ⊥) → off_test ys p ≡ true
 off_is ys p off = elim (none_or_some (times p ys)) [
