@@ -5,3 +5,10 @@ pub mod Away
 pub mod PlaceOrder
 pub mod LeastNumbers
 pub mod LargeVersions
+pub mod AtRest
+pub mod KnownUnits
+pub mod LowTrees
+pub mod RootTrees
+pub mod VersionsAtRest
+pub mod WorkingMoves
+pub mod SettledMoves
