@@ -12,3 +12,6 @@ pub mod RootTrees
 pub mod VersionsAtRest
 pub mod WorkingMoves
 pub mod SettledMoves
+pub mod PortMoves
+pub mod UnmovedVersions
+pub mod IdleStates
