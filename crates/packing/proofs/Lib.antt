@@ -5,6 +5,16 @@ pub mod Away
 pub mod PlaceOrder
 pub mod LeastNumbers
 pub mod LargeVersions
+pub mod AtRest
+pub mod KnownUnits
+pub mod LowTrees
+pub mod RootTrees
+pub mod VersionsAtRest
+pub mod WorkingMoves
+pub mod SettledMoves
+pub mod PortMoves
+pub mod UnmovedVersions
+pub mod IdleStates
 pub mod Totals
 pub mod Reading
 pub mod Trees

@@ -3,5 +3,6 @@ pub mod Moving
 pub mod Faults
 pub mod Objects
 pub mod Resting
+pub mod Working
 pub mod Packing
 pub mod Loop

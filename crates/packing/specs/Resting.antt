@@ -85,7 +85,7 @@ nodes_of d disk dense root = each_once (root_nodes_above d.geometry dense (units
 abbrev pub leaves_of : Decoded → List ℕ → ℕ → Root → List ℕ
 leaves_of d disk dense root = each_once (root_high_leaves d.geometry dense (units_of d disk) root)
 
--- One version was moved: its tree has no high leaf, and each other record is as it was. Between the move and the release of the old tree it had paid for the nodes
+-- One version was moved: its tree has no high leaf, and each leaf that wasn't high. Each other record is as it was. Between the move and the release of the old tree it had paid for the nodes
 -- and leaves that got copies; what was taken stays in use. Each copy of a unit of the old tree is sound while its units are in use, and a new one stands in the new tree.
 pub record MovesVersion (w : Outside) (old new : VolumeState) (d : Decoded) (disk : List ℕ) (dense : ℕ) (moves after : Copies) (version : LargeVersion) : Type 0 where
   pub again : RestsAgain w new d disk
@@ -98,6 +98,7 @@ pub record MovesVersion (w : Outside) (old new : VolumeState) (d : Decoded) (dis
   pub oid : oid_of moved ≡ version.oid
   pub large : moved.body.content ≡ Large made
   pub high : root_high_leaves d.geometry dense (units_of again.decoded again.image) made ≡ []
+  pub low : AllByRecursion (Has (root_units (units_of again.decoded again.image) made)) (root_low_leaves d.geometry dense (units_of d disk) version.root)
   -- Each unit in use before, but a page of a file, keeps its bytes.
   pub units : (u : ℕ) → used_at old.units u ≡ true → (Contains (catalog_no ∷ file_pages d.volume) u → ⊥) → units_of again.decoded again.image u ≡ units_of d disk u
   pub low : AllByRecursion (Has (root_units (units_of again.decoded again.image) made)) (root_low_leaves d.geometry dense (units_of d disk) version.root)

@@ -1,14 +1,17 @@
 //! A version of a volume at rest that is moved: it is committed, and written home.
 ghost use Rattle.std.specs.Prelude.{◌≡◌, ◌≤◌, ℕ, List, [], length, Some, IfErr, IfOk, IfSome, OnOk, IsTrue};
 ghost use Rattle.ex_base.specs.Ports.{HasCause, IsDamage};
-ghost use Rattle.disk_model.specs.Outside.{DiskOnly, Leaves};
-ghost use Rattle.compact.specs.Moved.{KeepsCopies};
+ghost use Rattle.disk_model.specs.Outside.{DiskOnly, Leaves, Outside};
+ghost use Rattle.compact.specs.Moved.{Copies, KeepsCopies};
 ghost use Rattle.compact.specs.Moves.{copies_of};
 ghost use Rattle.volume_model.specs.Committed.{StandsForVolume};
 ghost use Rattle.volume_model.specs.Volume.{Decoded};
 ghost use Rattle.volume_port.specs.State.{AreReady, IsAtRest, Moved};
 ghost use Rattle.tree_store.specs.Stored.{NoUnit};
 ghost use Rattle.packing.specs.Packing.{HoldsTableOf};
+ghost use Rattle.packing.specs.Working.{MaySettle, MovesWorking};
+ghost use Rattle.packing.specs.declared.objects.LargeVersion.{LargeVersion};
+ghost use Rattle.volume_port.specs.declared.state.VolumeState.{VolumeState};
 ghost use Rattle.packing.specs.Resting.{HasOwnCopies, HasRoomFor, IsIdle, IsStartOf, MovesVersion, NeverLacks, PackCause, TellsDamage};
 
 use crate::fault::PackFault;
@@ -41,6 +44,12 @@ fn move_working<D: Disk>(
         (length volume.new.meta.working ≤ length volume.old.meta.working + 1) }
     ensures still { IfOk result (λ made. made ≡ version.now.root
         → length volume.new.meta.working ≡ length volume.old.meta.working) }
+    ensures works { IfOk result (λ made. (d : Decoded) (image : List ℕ)
+        → IsAtRest (D.outside disk.old) volume.old d image
+        → HasOwnCopies volume.old d image dense (copies_of moves.old) version.now
+        → HasRoomFor volume.old d image dense (copies_of moves.old) version.now.root
+        → MovesWorking (D.outside disk.old) (D.outside disk.new) volume.old volume.new d image
+        dense (copies_of moves.old) (copies_of moves.new) version.now made) }
     ensures sound { IfErr result (λ fault. IsDamage fault → (d : Decoded) (image : List ℕ)
         → IsAtRest (D.outside disk.old) volume.old d image
         → HasOwnCopies volume.old d image dense (copies_of moves.old) version.now
@@ -94,7 +103,24 @@ fn settle<D: Disk>(
     requires catalog { length start.now.catalog.items ≡ volume.old.geometry.page_size }
     requires few { length volume.old.meta.working ≤ 1 }
     ensures idle { OnOk result (IsIdle (D.outside disk.new).size volume.new) }
+    ensures geometry { volume.new.geometry ≡ volume.old.geometry }
     ensures only { DiskOnly (D.outside disk.old) (D.outside disk.new) }
+    ensures moved { OnOk result ((w : Outside) (before : VolumeState) (d : Decoded)
+        (image : List ℕ) (moves after : Copies) (version : LargeVersion)
+        → MaySettle w (D.outside disk.old) before volume.old d image start.now moves after version
+        gone.now come.now
+        → MovesVersion (D.outside disk.new) before volume.new d image start.now.segs moves after
+        version) }
+    ensures any_moment { (w : Outside) (before : VolumeState) (d : Decoded) (image : List ℕ)
+        (moves after : Copies) (version : LargeVersion)
+        → MaySettle w (D.outside disk.old) before volume.old d image start.now moves after version
+        gone.now come.now
+        → Leaves (D.outside disk.old) (D.outside disk.new) (StandsForVolume d image) }
+    ensures sound { IfErr result (λ fault. TellsDamage fault → (w : Outside)
+        (before : VolumeState) (d : Decoded) (image : List ℕ) (moves after : Copies)
+        (version : LargeVersion)
+        → MaySettle w (D.outside disk.old) before volume.old d image start.now moves after version
+        gone.now come.now → ⊥) }
     ensures told { IfErr result NeverLacks }
     ensures cause { IfErr result (PackCause (D.outside disk.old) (D.outside disk.new)) }
 {

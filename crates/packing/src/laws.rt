@@ -36,7 +36,7 @@ pub fn a_moved_tree<P: Ground>()
         → HasVersion P.Ground old index oid head (Large root) bytes
         → CopiesAreOwn P.Ground old v (place_of oid) moves root
         → VersionMoved P.Ground old new index oid head dense moves after root made bytes
-        → (made ≡ root → ⊥) → MovesTree P.Ground old new records v root made }
+        → (made ≡ root → ⊥) → MovesTree P.Ground old new records v oid root made }
 {}
 
 /// A volume is dense where as many units of the segment area are in use as `dense`, and none of them is behind the lowest `dense` ones. Of these as many are
