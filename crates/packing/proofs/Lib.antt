@@ -27,3 +27,5 @@ pub mod Moments
 pub mod KeptPairs
 pub mod Stepping
 pub mod Ends
+pub mod SoFar
+pub mod FaultsTold

@@ -29,7 +29,11 @@ use Rattle.volume_port.specs.Reading.{CanRead, TellsBytes}
 use Rattle.volume_port.specs.State.{IsAtRest}
 use Rattle.volume_port.specs.declared.state.VolumeState.{VolumeState}
 use Rattle.volume_port.proofs.WorkingUnits.{image_is, same_unit}
-use Rattle.packing.specs.Loop.{ReadsAtRest}
+use Rattle.version_lists.specs.declared.version.Object.{Object}
+use Rattle.packing.specs.Loop.{IsPacking, ReadsAtRest}
+use Rattle.packing.specs.Packing.{pages_free, segs_used}
+use Rattle.packing.specs.Resting.{IsIdle}
+use Rattle.packing.specs.declared.start.Start.{Start}
 
 -- the images of logged pages, and the bytes of units, as a port over the state reads them
 abbrev pub images_over : VolumeState → Outside → ℕ → List ℕ
@@ -170,3 +174,46 @@ keeps_of a b old groups reads kinds sizes behind told ready =
 
 pub keeps_none : (a : Outside) (old : VolumeState) → CanRead old.geometry a.size old.groups 0 old.meta → ReadsAtRest a a old old
 keeps_none a old ready = record { only = reads_refl a; rest = refl; ready = ready; rests = λ d disk rests. rests }
+
+-- ---- a volume that is packed, and is read
+
+pub can_read : (size : ℕ) (volume : VolumeState) → IsIdle size volume → CanRead volume.geometry size volume.groups 0 volume.meta
+can_read size volume idle = record {
+  group = idle.ready.fits.group;
+  disk = idle.ready.fits.disk;
+  frames = idle.ready.fits.frames;
+  behind = idle.ready.fits.behind;
+  overlay = idle.ready.overlay;
+}
+
+idle_over : (size later : ℕ) (old : VolumeState) (groups : List Frames) → IsIdle size old → CanRead old.geometry later groups 0 old.meta → IsIdle later (record old { groups = groups })
+idle_over size later old groups idle ready = record {
+  ready = record {
+    fits = record { group = ready.group; disk = ready.disk; frames = ready.frames; behind = ready.behind; counted = idle.ready.fits.counted };
+    overlay = idle.ready.overlay;
+    held_len = idle.ready.held_len;
+    kept_len = idle.ready.kept_len;
+    catalog = idle.ready.catalog;
+    in_use = idle.ready.in_use;
+    images = idle.ready.images;
+    gone = idle.ready.gone;
+  };
+  log = idle.log;
+  working = idle.working;
+  committed = idle.committed;
+}
+
+pub idle_read : (a b : Outside) (old new : VolumeState) → ReadsAtRest a b old new → IsIdle a.size old → IsIdle b.size new
+idle_read a b old new reads idle =
+    let ready : CanRead old.geometry b.size new.groups 0 old.meta = subst (λ (v : VolumeState). CanRead v.geometry b.size new.groups 0 v.meta) reads.rest reads.ready in
+    subst (IsIdle b.size) (sym reads.rest) (idle_over a.size b.size old new.groups idle ready)
+
+pub packing_read : (a b : Outside) (old new : VolumeState) (d : Decoded) (disk : List ℕ) (start : Start) (later : List Object) → ReadsAtRest a b old new → IsPacking a old d disk start later → IsPacking b new d disk start later
+packing_read a b old new d disk start later reads p = record {
+  rests = reads.rests d disk p.rests;
+  since = p.since;
+  last = p.last;
+  segs = ap segs_used reads.rest ∙ p.segs;
+  pages = omega (arith, p.pages, ap pages_free reads.rest);
+  low = p.low;
+}

@@ -101,7 +101,6 @@ pub record MovesVersion (w : Outside) (old new : VolumeState) (d : Decoded) (dis
   pub low : AllByRecursion (Has (root_units (units_of again.decoded again.image) made)) (root_low_leaves d.geometry dense (units_of d disk) version.root)
   -- Each unit in use before, but a page of a file, keeps its bytes.
   pub units : (u : ℕ) → used_at old.units u ≡ true → (Contains (catalog_no ∷ file_pages d.volume) u → ⊥) → units_of again.decoded again.image u ≡ units_of d disk u
-  pub low : AllByRecursion (Has (root_units (units_of again.decoded again.image) made)) (root_low_leaves d.geometry dense (units_of d disk) version.root)
   -- the copies
   pub fresh : (page : ℕ) (copy : PageNo) → after page ≡ Some copy
       → (moves page ≡ Some copy) ⊎ (Has (root_units (units_of d disk) version.root) page × Has (root_units (units_of again.decoded again.image) made) copy.0)
