@@ -31,3 +31,10 @@ nothing_lacks fault.Disk fact never = tt
 nothing_lacks fault.Memory fact never = tt
 nothing_lacks (fault.Damaged page want got) fact never = tt
 nothing_lacks (fault.NoPages need free) fact never = absurd never
+
+-- what is known of pages that are lacking, of a step and of all
+pub lacks_weaker : (why : PackFault) (fact other : ℕ → ℕ → Type 0) → ((need free : ℕ) → fact need free → other need free) → IfLacking why fact → IfLacking why other
+lacks_weaker fault.Disk fact other turn lacks = tt
+lacks_weaker fault.Memory fact other turn lacks = tt
+lacks_weaker (fault.Damaged page want got) fact other turn lacks = tt
+lacks_weaker (fault.NoPages need free) fact other turn lacks = turn need free lacks

@@ -29,3 +29,5 @@ pub mod Stepping
 pub mod Ends
 pub mod SoFar
 pub mod FaultsTold
+pub mod Packed
+pub mod Files

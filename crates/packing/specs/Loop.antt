@@ -117,6 +117,14 @@ pub record PacksUntil (w : Outside) (volume : VolumeState) (d : Decoded) (disk :
 abbrev pub HaveEnough : Decoded → List ℕ → Start → List Object → Type 0
 HaveEnough d disk start objects = AllByRecursion (HasEnough d disk start.segs start.pages) objects
 
+-- All objects of the volume were moved: it is at rest again, the same but for places of bytes, with as many units of the segment area in use, and no tree has a unit
+-- that isn't one of so many lowest ones. No object lacked pages.
+pub record MovesAll (w : Outside) (old new : VolumeState) (d : Decoded) (disk : List ℕ) : Type 0 where
+  pub again : RestsAgain w new d disk
+  pub segs : segs_used new ≡ segs_used old
+  pub low : (s : Stored) → Contains (stored_in again.decoded.volume) s → HasLowTree again.decoded again.image (segs_used old) s
+  pub enough : AllByRecursion (HasEnough d disk (segs_used old) (pages_free old)) (all_objects d disk)
+
 -- ---- between two versions
 
 -- the nodes above high leaves of these versions, and their high leaves, each once

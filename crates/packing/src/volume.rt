@@ -13,8 +13,8 @@ ghost use Rattle.volume_model.specs.Volume.{Decoded, FileContent, file_of, units
 ghost use Rattle.volume_port.specs.Reading.{CanRead};
 ghost use Rattle.volume_port.specs.State.{IsAtRest};
 ghost use Rattle.packing.specs.Dense.{HasEnough, IsFirstLacking, all_objects, need_in};
-ghost use Rattle.packing.specs.Loop.{AreOfObject, AreRootsIn, HasFileAs, HasFileNo, HasListed, HaveEnough, IsOfOne, IsPacking, PacksUntil, ReadsAtRest, roots_of};
-ghost use Rattle.packing.specs.Packing.{HoldsTableOf, IfLacking, IsPacked, KeepsTable, LacksPages, StopsLacking, pages_free};
+ghost use Rattle.packing.specs.Loop.{AreOfObject, AreRootsIn, HasFileAs, HasFileNo, HasListed, HaveEnough, IsOfOne, IsPacking, MovesAll, PacksUntil, ReadsAtRest, roots_of};
+ghost use Rattle.packing.specs.Packing.{HoldsTableOf, IfLacking, IsPacked, KeepsTable, LacksPages, StopsLacking, pages_free, segs_used};
 ghost use Rattle.packing.specs.Resting.{IsIdle, IsStartOf, NeverLacks, PackCause, TellsDamage};
 
 use crate::fault::PackFault;
@@ -447,6 +447,34 @@ fn start_of<D: Disk>(
     })
 }
 
+/// Moves the versions of all objects of a volume at rest, of which so many units of the segment area are in use.
+fn move_high<D: Disk>(
+    alloc: Global,
+    disk: &mut D,
+    volume: &mut VolumeState,
+    segs: u32,
+) -> Result<(), PackFault>
+    requires ready { IsIdle (D.outside disk.old).size volume.old }
+    requires segs { segs ≡ segs_used volume.old }
+    ensures only { DiskOnly (D.outside disk.old) (D.outside disk.new) }
+    ensures moved { OnOk result ((d : Decoded) (image : List ℕ)
+        → IsAtRest (D.outside disk.old) volume.old d image
+        → MovesAll (D.outside disk.new) volume.old volume.new d image) }
+    ensures lacks { IfErr result (λ why. IfLacking why (λ need free. (d : Decoded)
+        (image : List ℕ) → IsAtRest (D.outside disk.old) volume.old d image
+        → LacksPages volume.old d image need free)) }
+    ensures keeps { (d : Decoded) (image : List ℕ)
+        → IsAtRest (D.outside disk.old) volume.old d image
+        → KeepsTable (D.outside disk.old) (D.outside disk.new) d image }
+    ensures sound { IfErr result (λ why. TellsDamage why → (d : Decoded) (image : List ℕ)
+        → IsAtRest (D.outside disk.old) volume.old d image → ⊥) }
+    ensures cause { IfErr result (PackCause (D.outside disk.old) (D.outside disk.new)) }
+{
+    let mut room = PageRoom::new(alloc);
+    let start = start_of(alloc, disk, volume, &mut room, segs)?;
+    pack_files(alloc, disk, volume, &mut room, &start)
+}
+
 /// Packs a volume at rest: the trees of its versions are moved until the units in use of the segment area are the lowest ones. Objects are taken in order of their
 /// files' names and of their least numbers, and the versions of one object in order of their numbers. Where none of the units in use is high, no tree is read.
 /// It stops at the first object whose nodes above high units are more than the free pages; the objects before it are moved. The table stays as it is, whatever
@@ -487,10 +515,9 @@ pub fn pack<D: Disk>(
     let geometry = volume.geometry;
     let segs = geometry.segs - volume.units.free(Area::Segment);
     let moved = free_among(&volume.units, &geometry, segs);
-    if 0 < moved {
-        let mut room = PageRoom::new(alloc);
-        let start = start_of(alloc, disk, volume, &mut room, segs)?;
-        pack_files(alloc, disk, volume, &mut room, &start)?;
+    if moved == 0 {
+        return Ok(Packed { moved, segs });
     }
+    move_high(alloc, disk, volume, segs)?;
     Ok(Packed { moved, segs })
 }
