@@ -10,3 +10,4 @@ pub mod Clients
 pub mod Generate
 pub mod Dump
 pub mod Promises
+pub mod Pack

@@ -6,6 +6,7 @@ mod dump;
 mod format;
 mod generate;
 mod opening;
+mod pack;
 mod program;
 mod script;
 mod session;

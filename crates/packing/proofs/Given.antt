@@ -15,6 +15,9 @@ use Rattle.packing.proofs.Totals.{has_or_not, one_each, total_length, total_less
 abbrev free_one : Bool → ℕ
 free_one b = if b then 0 else 1
 
+abbrev used_one : Bool → ℕ
+used_one b = if b then 1 else 0
+
 -- ---- one unit more
 
 free_step : (used : ℕ → Bool) (at : ℕ → ℕ) (n : ℕ) → free_below used at (suc n) ≡ free_below used at n + free_one (used (at n))
@@ -26,7 +29,7 @@ unfolding free_below
 free_start used at = refl
 
 -- each unit is free or in use
-one_either : (b : Bool) → free_one b + (if b then 1 else 0) ≡ 1
+one_either : (b : Bool) → free_one b + used_one b ≡ 1
 one_either true = refl
 one_either false = refl
 
@@ -158,7 +161,7 @@ behind_most used at from (suc n) listed le b = elim (cases_eq from (suc n)) [
               (j.0, j.1, (let off : j.0 ≢ n = λ same. apart p h (sym (ap at same) ∙ j.3) in omega (arith, j.2, off)), j.3);
           in_use = λ p h. b.in_use p (back p h);
         }) in
-        let is : (if used (at n) then 1 else 0) ≡ 1 = ap (λ (x : Bool). if x then 1 else 0) (b.in_use (at n) has) in
+        let is : used_one (used (at n)) ≡ 1 = ap used_one (b.in_use (at n) has) in
         omega (arith, rest, is, count_less (at n) listed some)
     | inr off ↦
         let rest = behind_most used at from n listed (omega (arith, le, before)) (record {
