@@ -31,3 +31,4 @@ pub mod SoFar
 pub mod FaultsTold
 pub mod Packed
 pub mod Files
+pub mod Whole
