@@ -32,3 +32,4 @@ pub mod FaultsTold
 pub mod Packed
 pub mod Files
 pub mod Whole
+pub mod Outcomes

@@ -117,7 +117,7 @@ module _ (w : Outside) (volume : VolumeState) (d : Decoded) (image : List ℕ) (
   pub dense_where : (dense : ℕ) → used_in d.geometry (used_at volume.units) Segment ≡ dense → ((j : ℕ) → dense ≤ j → j < d.geometry.segs → used_at volume.units (unit_at d.geometry Segment j) ≡ false) → IsDense image dense
   dense_where dense count none = is_dense d image (used_at volume.units) (is_held volume.pages) dense rests.committed.parts rests.knows count none
 
-  segs_here : used_in d.geometry (used_at volume.units) Segment ≡ segs_used volume
+  pub segs_here : used_in d.geometry (used_at volume.units) Segment ≡ segs_used volume
   segs_here = ap (λ (g : Geometry). used_in g (used_at volume.units) Segment) rests.geometry
 
   leaf_off : (p : ℕ) → NamesLeaf d.geometry p → Contains (catalog_no ∷ file_pages d.volume) p → ⊥
