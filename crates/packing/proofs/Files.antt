@@ -17,7 +17,7 @@ use Rattle.volume_model.specs.Volume.{Decoded, FileContent, Stored, file_of, sto
 use Rattle.volume_port.specs.State.{IsAtRest}
 use Rattle.volume_port.specs.declared.state.VolumeState.{VolumeState}
 use Rattle.packing.specs.Dense.{IsFirstLacking, all_objects, is_of}
-use Rattle.packing.specs.Loop.{HasFileAs, HaveEnough, IsPacking, NeedsAsMuch, PacksUntil}
+use Rattle.packing.specs.Loop.{HasFileAs, HaveEnough, IsPacking, KeepsRecords, NeedsAsMuch, PacksUntil}
 use Rattle.packing.specs.Packing.{KeepsTable}
 use Rattle.packing.specs.Resting.{IsIdle}
 use Rattle.packing.specs.declared.start.Start.{Start}
@@ -162,6 +162,7 @@ module _ (w z c : Outside) (old now new : VolumeState) (start : Start) (at : ℕ
         again = so_far.until.again;
         packing = subst (IsPacking z now k later_image start) parted so_far.until.packing;
         needs = subst (AllByRecursion (NeedsAsMuch d image k later_image start.segs)) parted so_far.until.needs;
+        records = subst (AllByRecursion (KeepsRecords d.volume k.volume)) parted so_far.until.records;
       };
       enough = so_far.enough;
       keeps = so_far.keeps;

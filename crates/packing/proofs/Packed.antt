@@ -5,10 +5,10 @@ use Rattle.ex_base.proofs.Each.{each_as, each_with, split_each}
 use Rattle.ex_base.proofs.Rows.{each-append}
 use Rattle.disk_model.specs.Outside.{Outside}
 use Rattle.version_lists.specs.declared.version.Object.{Object}
-use Rattle.volume_model.specs.Volume.{Decoded}
+use Rattle.volume_model.specs.Volume.{Decoded, Volume}
 use Rattle.volume_port.specs.declared.state.VolumeState.{VolumeState}
 use Rattle.packing.specs.Dense.{HasEnough, IsFirstLacking, need_in}
-use Rattle.packing.specs.Loop.{HaveEnough, IsPacking, NeedsAsMuch, PacksUntil}
+use Rattle.packing.specs.Loop.{HaveEnough, IsPacking, KeepsRecords, NeedsAsMuch, PacksUntil}
 use Rattle.packing.specs.Packing.{KeepsTable}
 use Rattle.packing.specs.declared.start.Start.{Start}
 use Rattle.packing.proofs.Moments.{keeps_on, same_trans}
@@ -23,6 +23,20 @@ needs_self : (d : Decoded) (disk : List ℕ) (dense : ℕ) (objects : List Objec
 needs_self d disk dense [] = tt
 needs_self d disk dense (o ∷ objects) = (refl, needs_self d disk dense objects)
 
+pub records_self : (v : Volume) (objects : List Object) → AllByRecursion (KeepsRecords v v) objects
+records_self v [] = tt
+records_self v (o ∷ objects) = (λ s is. (λ there. there, λ there. there), records_self v objects)
+
+-- one after the other
+pub records_on : (v mid now : Volume) (objects : List Object) → AllByRecursion (KeepsRecords v mid) objects → AllByRecursion (KeepsRecords mid now) objects → AllByRecursion (KeepsRecords v now) objects
+records_on v mid now objects first second =
+    each_with (KeepsRecords v mid) (KeepsRecords mid now) (KeepsRecords v now) objects (λ o one two s is.
+    let a = one s is in
+    let b = two s is in (
+      λ there. b.0 (a.0 there),
+      λ there. a.1 (b.1 there),
+    )) first second
+
 -- none were yet
 pub packs_none : (w z : Outside) (volume : VolumeState) (d : Decoded) (disk : List ℕ) (start : Start) (objects : List Object) → IsPacking z volume d disk start objects → KeepsTable w z d disk → PacksFrom w z volume d disk start [] objects
 packs_none w z volume d disk start objects p keeps = record {
@@ -30,6 +44,7 @@ packs_none w z volume d disk start objects p keeps = record {
     again = record { decoded = d; image = disk; rests = p.rests; same = record { geometry = refl; table = refl; catalog = refl; page = refl; pages = refl } };
     packing = p;
     needs = needs_self d disk start.segs objects;
+    records = records_self d.volume objects;
   };
   enough = tt;
   keeps = keeps;
@@ -62,6 +77,7 @@ module _ (w z c : Outside) (now new : VolumeState) (d : Decoded) (disk : List �
       packing = until.packing;
       needs = each_with (NeedsAsMuch d disk k image start.segs) (NeedsAsMuch k image until.again.decoded until.again.image start.segs) (NeedsAsMuch d disk until.again.decoded until.again.image start.segs) rest
           (λ o one two. two ∙ one) needs_parted.1 until.needs;
+      records = let parts = split_each (KeepsRecords d.volume k.volume) mid rest x.until.records in records_on d.volume k.volume until.again.decoded.volume rest parts.1 until.records;
     };
     enough = each-append (HasEnough d disk start.segs start.pages) front mid x.enough (enough_then mid needs_parted.0 enough);
     keeps = keeps_on w z c d k disk image x.until.again.same x.keeps keeps;

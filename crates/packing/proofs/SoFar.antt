@@ -23,7 +23,8 @@ use Rattle.packing.specs.declared.objects.LargeVersion.{LargeVersion}
 use Rattle.packing.specs.declared.start.Start.{Start}
 use Rattle.packing.proofs.Ends.{begun, ended, own_copies, room}
 use Rattle.packing.proofs.Moments.{keeps_now, keeps_on, same_refl, same_trans}
-use Rattle.packing.proofs.Stepping.{needs_left, stepped}
+use Rattle.packing.proofs.Packed.{records_on, records_self}
+use Rattle.packing.proofs.Stepping.{needs_left, records_left, stepped}
 
 -- what a list has behind its end
 abbrev pub no_version : LargeVersion
@@ -50,6 +51,7 @@ none_moved w old start versions moves world idle none = record {
       again = record { decoded = d; image = disk; rests = p.rests; same = same_refl d disk };
       moving = begun w old d disk start object later moves versions p are enough none;
       needs = needs_same d disk start.segs later;
+      records = records_self d.volume later;
     },
     keeps_now w old d disk p.rests world,
   );
@@ -103,6 +105,8 @@ module _ (w z c : Outside) (old now new : VolumeState) (start : Start) (versions
       needs = each_with (NeedsAsMuch d disk so_far.again.decoded so_far.again.image start.segs) (NeedsAsMuch so_far.again.decoded so_far.again.image moved.again.decoded moved.again.image start.segs)
           (NeedsAsMuch d disk moved.again.decoded moved.again.image start.segs) later (λ o one two. two ∙ one) so_far.needs
           (needs_left z c now new so_far.again.decoded so_far.again.image start object later moves after version left moving does.keeps moved);
+      records = records_on d.volume so_far.again.decoded.volume moved.again.decoded.volume later so_far.records
+          (records_left z c now new so_far.again.decoded so_far.again.image start object later moves after version left moving does.keeps moved);
     }
 
   pub one_more : IsIdle c.size new → new.geometry ≡ now.geometry → DiskOnly z c
@@ -130,6 +134,7 @@ all_moved w z old new start versions moves i end x d disk later object p are eno
       again = m.again;
       packing = ended z new m.again.decoded m.again.image start object later moves (subst (IsMoving z new m.again.decoded m.again.image start object later moves) (drop_all i versions end) m.moving);
       needs = m.needs;
+      records = m.records;
     }
 
 -- ---- faults

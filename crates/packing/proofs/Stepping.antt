@@ -45,7 +45,7 @@ use Rattle.compact.specs.High.{each_once, has_high, high_leaves, is_high, nodes_
 use Rattle.compact.specs.Moved.{Copies, IsSoundPair, KeepsCopies, one_without, unmoved}
 use Rattle.compact.proofs.Levels.{high_same, same_level}
 use Rattle.packing.specs.Dense.{all_objects, is_of, roots_of_object}
-use Rattle.packing.specs.Loop.{HasHeldCopies, HasLowTree, IsHeld, IsMoving, IsOfNone, IsOfObject, IsOther, NeedsAsMuch, leaves_high, nodes_high, number_of, roots_of}
+use Rattle.packing.specs.Loop.{HasHeldCopies, HasLowTree, IsHeld, IsMoving, IsOfNone, IsOfObject, IsOther, KeepsRecords, NeedsAsMuch, leaves_high, nodes_high, number_of, roots_of}
 use Rattle.packing.specs.Packing.{pages_free, segs_used}
 use Rattle.packing.specs.Resting.{MovesVersion}
 use Rattle.packing.specs.declared.objects.LargeVersion.{LargeVersion}
@@ -647,3 +647,9 @@ module _ (w z : Outside) (old new : VolumeState) (d : Decoded) (disk : List ℕ)
       let r = of_root d.volume (root_nodes_above d.geometry dense u) o p has in
       root_of now.volume (root_nodes_above now.geometry dense v) o p
       (record { stored = r.stored; there = stays r.stored r.there (later_apart o h r.stored r.same); same = r.same; root = r.root; large = r.large; has = subst (λ (xs : List ℕ). Has xs p) (sym (same_nodes_now r.stored r.root r.there r.large)) r.has })))
+
+  pub records_left : AllByRecursion (KeepsRecords d.volume now.volume) later
+  records_left = each_in (KeepsRecords d.volume now.volume) later (λ o h s is. (
+    λ there. contains_in s (stored_in now.volume) (stays s (in_contains s (stored_in d.volume) there) (later_apart o h s is)),
+    λ there. contains_in s (stored_in d.volume) (stayed s (in_contains s (stored_in now.volume) there) (later_apart o h s is)),
+  ))

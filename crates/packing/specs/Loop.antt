@@ -1,5 +1,5 @@
 -- What is known between two objects, and between two versions, of a volume that is packed.
-use Rattle.std.specs.Prelude.{◌≡◌, ◌≤◌, ◌+◌, ℕ, true, false, List, [], ◌∷◌, ◌++◌, length, map, slice_get, Some, Contains}
+use Rattle.std.specs.Prelude.{◌≡◌, ◌≤◌, ◌+◌, ◌↔◌, ℕ, true, false, List, [], ◌∷◌, ◌++◌, length, map, slice_get, Some, Contains}
 use Rattle.std.specs.List.{AllByRecursion, flat_map, zip}
 use Rattle.ex_base.specs.Order.{AllDiffer}
 use Rattle.ex_base.specs.declared.names.PageNo.{PageNo}
@@ -107,11 +107,16 @@ pub record IsPacking (w : Outside) (volume : VolumeState) (d : Decoded) (disk : 
 abbrev pub NeedsAsMuch : Decoded → List ℕ → Decoded → List ℕ → ℕ → Object → Type 0
 NeedsAsMuch d disk now image dense object = need_in now image dense object ≡ need_in d disk dense object
 
+-- the records of an object stay
+abbrev pub KeepsRecords : Volume → Volume → Object → Type 0
+KeepsRecords v now object = (s : Stored) → is_of object s ≡ true → Contains (stored_in v) s ↔ Contains (stored_in now) s
+
 -- The volume is at rest again, the same but for places of bytes, and no tree of another object than these has a high leaf. These were left as they were.
 pub record PacksUntil (w : Outside) (volume : VolumeState) (d : Decoded) (disk : List ℕ) (start : Start) (later : List Object) : Type 0 where
   pub again : RestsAgain w volume d disk
   pub packing : IsPacking w volume again.decoded again.image start later
   pub needs : AllByRecursion (NeedsAsMuch d disk again.decoded again.image start.segs) later
+  pub records : AllByRecursion (KeepsRecords d.volume again.decoded.volume) later
 
 -- no more nodes lead to high leaves in the trees of each of these objects than pages were free at the start
 abbrev pub HaveEnough : Decoded → List ℕ → Start → List Object → Type 0
@@ -179,3 +184,4 @@ pub record MovesUntil (w : Outside) (volume : VolumeState) (d : Decoded) (disk :
   pub again : RestsAgain w volume d disk
   pub moving : IsMoving w volume again.decoded again.image start object later moves left
   pub needs : AllByRecursion (NeedsAsMuch d disk again.decoded again.image start.segs) later
+  pub records : AllByRecursion (KeepsRecords d.volume again.decoded.volume) later
