@@ -26,7 +26,6 @@ use Rattle.volume_moves.specs.Moves.{AreOfOneObject}
 use Rattle.history_volumes.proofs.Numbers.{second_has}
 use Rattle.history_volumes.proofs.OneObject.{first_record, in_object, label, object_there}
 use Rattle.packing.specs.Dense.{is_of}
-use Rattle.packing.specs.Loop.{IsOfNone}
 
 -- ---- whether a record is of an object
 
