@@ -33,3 +33,4 @@ pub mod Packed
 pub mod Files
 pub mod Whole
 pub mod Outcomes
+pub mod Grouped

@@ -31,13 +31,17 @@ total_less f p (x ∷ xs) some = (elim (cases_eq p x) as (λ c. total f (elim c 
 pub total_most : (f : ℕ → ℕ) (xs ys : List ℕ) → ((p : ℕ) → (f p ≡ 0) ⊎ (times p xs ≤ times p ys)) → total f xs ≤ total f ys
 total_most f [] ys within = omega arith
 total_most f (x ∷ xs) ys within = elim (within x) [
-  | inl none ↦ omega (arith, none, total_most f xs ys (λ p. elim (within p) [
-    | inl zero ↦ inl zero
-    | inr most ↦ elim (same_or_not p x) [
-      | inl same ↦ inr (omega (arith, most, times_here p x xs same))
-      | inr differ ↦ inr (omega (arith, most, times_apart p x xs differ))
-    ]
-  ]))
+  | inl none ↦ omega (
+    arith,
+    none,
+    total_most f xs ys (λ p. elim (within p) [
+      | inl zero ↦ inl zero
+      | inr most ↦ elim (same_or_not p x) [
+        | inl same ↦ inr (omega (arith, most, times_here p x xs same))
+        | inr differ ↦ inr (omega (arith, most, times_apart p x xs differ))
+      ]
+    ]),
+  )
   | inr here ↦
       let there : 1 ≤ times x ys = omega (arith, here, times_here x x xs refl) in
       let rest = total_most f xs (without_one x ys) (λ p. elim (within p) [

@@ -80,7 +80,7 @@ first_lacks old start d image need free segs pages both =
     let free_is : free ≡ pages_free old = both.0 ∙ pages in (
       free_is,
       subst (λ (n : ℕ). IsFirstLacking d image (segs_used old) n need (all_objects d image)) (pages ∙ sym free_is)
-      (subst (λ (n : ℕ). IsFirstLacking d image n start.pages need (all_objects d image)) segs both.1),
+          (subst (λ (n : ℕ). IsFirstLacking d image n start.pages need (all_objects d image)) segs both.1),
     )
 
 -- ---- units behind so many
