@@ -34,3 +34,4 @@ pub mod Files
 pub mod Whole
 pub mod Outcomes
 pub mod Grouped
+pub mod FileObjects
