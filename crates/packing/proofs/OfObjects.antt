@@ -167,7 +167,7 @@ module _ (g : Geometry) (records : List LogRecord) (units : Units) (v : Volume) 
 
 -- in whichever way objects are told
 module _ (g : Geometry) (records : List LogRecord) (units : Units) (v : Volume) (parts : AllByRecursion (HoldsOf g records units v) content_parts) where
-  parts_told : HasObjects units (stored_in v) → AllByRecursion (HoldsOf g records units v) content_parts
+  abbrev parts_told : HasObjects units (stored_in v) → AllByRecursion (HoldsOf g records units v) content_parts
   parts_told told = (parts.0, (parts.1.0, (parts.1.1.0, (parts.1.1.1.0, (record { named = parts.1.1.1.1.0.named; no_file_page = parts.1.1.1.1.0.no_file_page; objects = told }, parts.1.1.1.1.1)))))
 
   pub of_one : (o : Object) → Has (objects_of (table_of units v)) o → (s t : Stored) → Has (stored_in v) s → Has (stored_in v) t → is_of o s ≡ true → is_of o t ≡ true → AreOfOneObject units (stored_in v) s.place t.place
