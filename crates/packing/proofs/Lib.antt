@@ -15,3 +15,4 @@ pub mod SettledMoves
 pub mod PortMoves
 pub mod UnmovedVersions
 pub mod IdleStates
+pub mod PackFaults

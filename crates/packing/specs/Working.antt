@@ -25,9 +25,7 @@ use Rattle.volume_port.specs.declared.state.VolumeState.{VolumeState}
 use Rattle.volume_port.specs.Logged.{is_held}
 use Rattle.volume_port.specs.State.{IsAtRest, Moved}
 use Rattle.volume_port.specs.Stays.{StaysUsed, StillCommitted}
-use Rattle.packing.specs.Resting.{IsStartOf}
 use Rattle.packing.specs.declared.objects.LargeVersion.{LargeVersion}
-use Rattle.packing.specs.declared.start.Start.{Start}
 
 -- The tree of a root, over units in use that are no page of a file, was moved, with these units before and later: none of its units is high, each is in use, and what was taken and the leaves that weren't high
 -- are among them. What was in use
@@ -78,10 +76,9 @@ pub record MovesWorking (w x : Outside) (old new : VolumeState) (d : Decoded) (d
   pub turned : (made ≡ version.root → ⊥) → WorkingMoved new d disk later version made
   pub rests : made ≡ version.root → IsAtRest x new d later
 
--- The working pages are those of a version that was moved, and that has another root then. What was read before the first version is so of the volume.
-pub record MaySettle (w x : Outside) (old mid : VolumeState) (d : Decoded) (disk : List ℕ) (start : Start) (moves after : Copies) (version : LargeVersion) (gone come : Root) : Type 0 where
+-- The working pages are those of a version that was moved, and that has another root then.
+pub record MaySettle (w x : Outside) (old mid : VolumeState) (d : Decoded) (disk : List ℕ) (dense : ℕ) (moves after : Copies) (version : LargeVersion) (gone come : Root) : Type 0 where
   pub rests : IsAtRest w old d disk
-  pub start_is : IsStartOf d disk start
-  pub works : MovesWorking w x old mid d disk start.segs moves after version come
+  pub works : MovesWorking w x old mid d disk dense moves after version come
   pub root : gone ≡ version.root
   pub differ : come ≡ gone → ⊥

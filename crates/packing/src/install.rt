@@ -107,20 +107,20 @@ fn settle<D: Disk>(
     ensures only { DiskOnly (D.outside disk.old) (D.outside disk.new) }
     ensures moved { OnOk result ((w : Outside) (before : VolumeState) (d : Decoded)
         (image : List ℕ) (moves after : Copies) (version : LargeVersion)
-        → MaySettle w (D.outside disk.old) before volume.old d image start.now moves after version
-        gone.now come.now
+        → MaySettle w (D.outside disk.old) before volume.old d image start.now.segs moves after
+        version gone.now come.now → IsStartOf d image start.now
         → MovesVersion (D.outside disk.new) before volume.new d image start.now.segs moves after
         version) }
     ensures any_moment { (w : Outside) (before : VolumeState) (d : Decoded) (image : List ℕ)
         (moves after : Copies) (version : LargeVersion)
-        → MaySettle w (D.outside disk.old) before volume.old d image start.now moves after version
-        gone.now come.now
+        → MaySettle w (D.outside disk.old) before volume.old d image start.now.segs moves after
+        version gone.now come.now → IsStartOf d image start.now
         → Leaves (D.outside disk.old) (D.outside disk.new) (StandsForVolume d image) }
     ensures sound { IfErr result (λ fault. TellsDamage fault → (w : Outside)
         (before : VolumeState) (d : Decoded) (image : List ℕ) (moves after : Copies)
         (version : LargeVersion)
-        → MaySettle w (D.outside disk.old) before volume.old d image start.now moves after version
-        gone.now come.now → ⊥) }
+        → MaySettle w (D.outside disk.old) before volume.old d image start.now.segs moves after
+        version gone.now come.now → ⊥) }
     ensures told { IfErr result NeverLacks }
     ensures cause { IfErr result (PackCause (D.outside disk.old) (D.outside disk.new)) }
 {
