@@ -16,3 +16,4 @@ pub mod PortMoves
 pub mod UnmovedVersions
 pub mod IdleStates
 pub mod PackFaults
+pub mod Settlings

@@ -145,10 +145,10 @@ module _ {w x : Outside} (old mid : VolumeState) (d : Decoded) (disk : List ℕ)
 
   -- ---- who owns what
 
-  same_kept : mid.kept ≡ mid.pages
+  pub same_kept : mid.kept ≡ mid.pages
   same_kept = ap (λ (u : VolumeState). u.kept) working.moved.rest ∙ rests.kept ∙ sym working.same_pages
 
-  mid_geometry : d.geometry ≡ mid.geometry
+  pub mid_geometry : d.geometry ≡ mid.geometry
   mid_geometry = rests.geometry ∙ sym (ap (λ (u : VolumeState). u.geometry) working.moved.rest)
 
   listed : (page : ℕ) → is_logged mid.pages mid.kept page ≡ true → 1 ≤ times page (catalog_no ∷ file_pages now)
