@@ -1,6 +1,6 @@
 -- A port over the parts of a volume: at rest it has the volume, and what it has in the working pages is the volume that a commit reads.
 use mathlib.Core.Path.{fun_ext}
-use Rattle.std.proofs.Common.{◌≡◌, ◌∙◌, ◌≤◌, ℕ, Bool, true, ltb, List, [], ◌∷◌, ◌++◌, Option, Some, None, nat_eq, inl, inr, refl, sym, ap, subst, arith}
+use Rattle.std.proofs.Common.{◌≡◌, ◌∙◌, ◌≤◌, ℕ, Bool, true, ltb, List, [], ◌∷◌, ◌++◌, Option, Some, None, nat_eq, inl, inr, sym, ap, subst, arith}
 use Rattle.std.specs.Prelude.{Contains, ◌↔◌, unwrap_or}
 use Rattle.std.specs.List.{AllByRecursion}
 use Rattle.std.specs.Map.{lookup}
@@ -12,7 +12,7 @@ use Rattle.ex_base.specs.Area.{InPageArea, area_end, catalog_no, leaf_at, page_a
 use Rattle.ex_base.proofs.Each.{each_from, each_of, each_parted, flat_same}
 use Rattle.disk_model.specs.Outside.{Outside}
 use Rattle.commits.proofs.Reached.{reach_behind, without_last}
-use Rattle.meta_pages.specs.Overlays.{Overlays, image_at, over}
+use Rattle.meta_pages.specs.Overlays.{image_at, over}
 use Rattle.op_log.specs.declared.record.LogRecord.{LogRecord}
 use Rattle.op_log.specs.AfterLog.{logged}
 use Rattle.page_alloc.specs.UnitSet.{free_count, refs_at, used_at}

@@ -1,9 +1,8 @@
 -- The state between two versions: nothing runs, and the parts are of one geometry.
-use Rattle.std.proofs.Common.{◌≡◌, ◌∙◌, ◌<◌, ◌≤◌, ℕ, true, List, [], length, All, Some, None, nat_eq, refl, sym, ap, subst, arith}
+use Rattle.std.proofs.Common.{◌≡◌, ◌∙◌, ℕ, true, List, [], length, All, Some, None, nat_eq, sym, ap, arith}
 use Rattle.std.specs.Map.{lookup}
 use Rattle.std.proofs.lemmas.List.{nil_from_length}
 use Rattle.ex_base.specs.declared.geometry.Geometry.{Geometry}
-use Rattle.ex_base.specs.Sizes.{volume_bytes}
 use Rattle.disk_model.specs.Outside.{Outside}
 use Rattle.buffer_groups.specs.Frames.{Frames}
 use Rattle.buffer_groups.specs.Groups.{SameKinds}

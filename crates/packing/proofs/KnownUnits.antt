@@ -1,5 +1,5 @@
 -- What is in use, where each unit of a volume at rest has as many references as owners, is what the volume reaches.
-use Rattle.std.proofs.Common.{◌≡◌, ◌↔◌, ◌+◌, ◌≤◌, ℕ, Bool, true, List, [], ◌∷◌, ◌++◌, refl, subst, sym, arith}
+use Rattle.std.proofs.Common.{◌≡◌, ◌↔◌, ◌+◌, ℕ, Bool, true, List, [], ◌∷◌, ◌++◌, refl, subst, sym, arith}
 use Rattle.std.specs.Prelude.{Contains}
 use Rattle.std.proofs.lemmas.List.{append-nil}
 use Rattle.ex_base.specs.Area.{catalog_no}
@@ -8,7 +8,7 @@ use Rattle.ex_base.proofs.Counts.{times-append}
 use Rattle.ex_base.specs.declared.names.Root.{Root}
 use Rattle.op_log.specs.State.{LogState}
 use Rattle.session_views.specs.View.{View}
-use Rattle.trees.specs.Owners.{page_here, root_pages}
+use Rattle.trees.specs.Owners.{root_pages}
 use Rattle.volume_model.specs.Committed.{Committed}
 use Rattle.volume_model.specs.FreshView.{KnowsUnits, OwnsUnits, fresh_view}
 use Rattle.volume_model.specs.Held.{Held}

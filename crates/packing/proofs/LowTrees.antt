@@ -1,5 +1,5 @@
 -- Trees without a high unit have no high leaf, and copies are sound wherever their units are kept.
-use Rattle.std.proofs.Common.{◌≡◌, ◌∙◌, ℕ, zero, suc, Bool, true, false, List, [], ◌∷◌, ◌++◌, Option, Some, None, refl, sym, ap, subst}
+use Rattle.std.proofs.Common.{◌≡◌, ◌∙◌, ℕ, zero, suc, Bool, false, List, [], ◌∷◌, ◌++◌, Option, Some, None, refl, sym, ap, subst}
 use Rattle.std.specs.Prelude.{if◌then◌else◌, map}
 use Rattle.std.specs.List.{AllByRecursion, flat_map}
 use Rattle.ex_base.specs.declared.geometry.Geometry.{Geometry}
@@ -11,7 +11,7 @@ use Rattle.trees.specs.Names.{page_of_pair}
 use Rattle.trees.specs.Node.{pairs_on}
 use Rattle.trees.specs.Made.{AreUsed, Has}
 use Rattle.trees.specs.Owners.{named_on, page_here}
-use Rattle.trees.specs.Trees.{HasSize, IsNamed, Units, bytes_on, root_units, root_units_at, shape_on, units_on}
+use Rattle.trees.specs.Trees.{HasSize, Units, root_units, root_units_at, units_on}
 use Rattle.trees.proofs.SameUnits.{Kept, bytes_same, named_same, shape_same, sized_same, units_same}
 use Rattle.compact.specs.High.{any_of, has_high, high_leaves, is_high, low_leaves, root_high_leaves}
 use Rattle.compact.specs.Moved.{AreLow, IsSoundPair}

@@ -1,11 +1,10 @@
 -- What faults of the parts are told as: none of pages that are lacking, and damage just where a port tells of it.
-use Rattle.std.proofs.Common.{◌≡◌, ◌≤◌, ℕ, arith}
 use Rattle.ex_base.specs.declared.faults.PortFault.{PortFault}
 use Rattle.ex_base.specs.declared.faults.PortFault.TheVariants as port_fault
 use Rattle.ex_base.specs.Ports.{Cause, IsDamage}
 use Rattle.commits.specs.declared.keep.CommitFault.{CommitFault}
 use Rattle.commits.specs.declared.keep.CommitFault.TheVariants as commit_fault
-use Rattle.disk_model.specs.Outside.{Outside, Rose}
+use Rattle.disk_model.specs.Outside.{Outside}
 use Rattle.packing.specs.Faults.{told_of, uncommitted}
 use Rattle.packing.specs.Resting.{NeverLacks, PackCause, TellsDamage}
 use Rattle.packing.specs.declared.fault.PackFault.{PackFault}

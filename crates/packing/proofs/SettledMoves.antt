@@ -9,9 +9,9 @@ use Rattle.ex_base.specs.declared.geometry.Geometry.{Geometry}
 use Rattle.ex_base.specs.declared.names.OpNote.{OpNote}
 use Rattle.ex_base.specs.declared.names.PageNo.{PageNo}
 use Rattle.ex_base.specs.declared.names.Root.{Root}
-use Rattle.ex_base.specs.Area.{InPageArea, IsUnit, catalog_no, leaf_at, page_at}
+use Rattle.ex_base.specs.Area.{IsUnit, catalog_no, leaf_at, page_at}
 use Rattle.ex_base.specs.Ports.{times}
-use Rattle.ex_base.proofs.Counts.{contains_times, times_contains}
+use Rattle.ex_base.proofs.Counts.{contains_times}
 use Rattle.ex_base.proofs.Each.{each_as, each_from}
 use Rattle.ex_base.proofs.Members.{In, contains_cases, contains_in, in_contains, in_either, in_left, in_right, into_flat}
 use Rattle.disk_model.specs.Outside.{Outside, ReadsOnly}
@@ -25,7 +25,6 @@ use Rattle.trees.specs.Made.{AreUsed, Has}
 use Rattle.trees.specs.Owners.{IsOwned, root_pages}
 use Rattle.trees.specs.Trees.{IsNamed, Units, root_units, units_on}
 use Rattle.trees.proofs.KeptRoots.{RootKept, units_of_root}
-use Rattle.trees.proofs.RootSteps.{has_each}
 use Rattle.trees.proofs.SameUnits.{Kept, units_same}
 use Rattle.compact.specs.High.{root_low_leaves}
 use Rattle.compact.specs.Moved.{AreLow, Copies, IsSoundPair}
@@ -33,7 +32,7 @@ use Rattle.volume_model.specs.Committed.{Checkpointed, Committed, CommittedAs, I
 use Rattle.volume_model.specs.CrashImage.{agrees_stands}
 use Rattle.volume_model.specs.FreshView.{KnowsUnits, OwnsUnits}
 use Rattle.volume_model.specs.Homes.{home}
-use Rattle.volume_model.specs.Parts.{HoldsOf, StandsFor, content_parts}
+use Rattle.volume_model.specs.Parts.{StandsFor}
 use Rattle.volume_model.specs.SameVolume.{IsKept, kept_from_reach, parts_kept, table_kept}
 use Rattle.volume_model.specs.Shown.{IsWorkingPage, PageRow, WorkingRow, laid_over, laid_over_page, working_units}
 use Rattle.volume_model.specs.Volume.{Decoded, Stored, Volume, file_pages, oid_of, reach_of, root_in, roots_in, stored_in, table_of, units_of}

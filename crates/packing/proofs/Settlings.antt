@@ -1,12 +1,11 @@
 -- A version that was moved in the working pages is settled: counted, released, committed and written home.
-use Rattle.std.proofs.Common.{◌≡◌, ◌∙◌, ◌<◌, ◌≤◌, ℕ, Bool, true, List, [], ◌∷◌, ◌++◌, length, Some, IsTrue, refl, sym, ap, subst}
-use Rattle.std.specs.Prelude.{IsSome}
+use Rattle.std.proofs.Common.{◌≡◌, ◌∙◌, ◌≤◌, ℕ, true, List, [], ◌∷◌, ◌++◌, length, Some, IsTrue, refl, sym, ap, subst}
 use Rattle.ex_base.specs.declared.geometry.Geometry.{Geometry}
 use Rattle.ex_base.specs.declared.names.OpNote.{OpNote}
 use Rattle.ex_base.specs.declared.names.Root.{Root}
 use Rattle.ex_base.specs.Area.{catalog_no}
 use Rattle.disk_model.specs.Outside.{IsWorld, Leaves, Outside, ReadsOnly}
-use Rattle.disk_model.specs.Runs.{leaves_quiet, leaves_start, leaves_trans, leaves_wider}
+use Rattle.disk_model.specs.Runs.{leaves_quiet, leaves_start, leaves_wider}
 use Rattle.buffer_groups.specs.Frames.{Frames}
 use Rattle.tree_store.specs.Stored.{Tells}
 use Rattle.meta_pages.specs.Overlays.{Overlays}
@@ -20,15 +19,14 @@ use Rattle.volume_model.specs.Homes.{home}
 use Rattle.volume_model.specs.Parts.{StandsFor}
 use Rattle.volume_model.specs.Shown.{PageRow, WorkingRow}
 use Rattle.volume_model.specs.Volume.{Decoded, Volume, table_of, units_of}
-use Rattle.volume_port.specs.GivingUp.{CountsRoot, GivesTrees, OwnRoots, ReleasesRoots, is_logged}
-use Rattle.volume_port.specs.Logged.{is_held}
+use Rattle.volume_port.specs.GivingUp.{CountsRoot, OwnRoots, ReleasesRoots}
 use Rattle.volume_port.specs.State.{IsAtRest}
 use Rattle.volume_port.specs.declared.state.VolumeState.{VolumeState}
 use Rattle.packing.specs.Resting.{IsIdle, IsStartOf, MovesVersion}
 use Rattle.packing.specs.Working.{MaySettle, MovesWorking}
 use Rattle.packing.specs.declared.objects.LargeVersion.{LargeVersion}
 use Rattle.packing.specs.declared.start.Start.{Start}
-use Rattle.packing.proofs.SettledMoves.{committed_there, knows_final, may_commit, mid_geometry, moves_version, of_no_file, one_counts, own_gone, owned_final, owned_now, same_kept, stands_before, stands_either, table_now}
+use Rattle.packing.proofs.SettledMoves.{committed_there, knows_final, may_commit, mid_geometry, moves_version, of_no_file, own_gone, owned_final, owned_now, same_kept, stands_before, stands_either, table_now}
 
 -- what a commit and a checkpoint make of a volume, as their contracts say it
 abbrev pub Commits : Outside → Outside → LogState → Overlays → ℕ → LogState → Overlays → Type 0
@@ -56,12 +54,12 @@ module _ {w x : Outside} (old mid : VolumeState) (d : Decoded) (disk : List ℕ)
   abbrev later : List ℕ
   later = works.later
 
-  module _ (is : IsStartOf d disk start) where
-    -- the tree that went owns its units
-    pub gone_owns : (counted : UnitSet) → CountsRoot (Some come) mid.units counted → OwnRoots mid.pages mid.kept mid.geometry x mid.groups counted (gone ∷ [])
-    gone_owns counted counts = subst (λ (root : Root). OwnRoots mid.pages mid.kept mid.geometry x mid.groups counted (root ∷ [])) (sym may.root)
-        (own_gone old mid d disk start.segs moves after version come may.rests works differs start.catalog.items is.catalog few counted counts)
+  -- the tree that went owns its units
+  pub gone_owns : (counted : UnitSet) → CountsRoot (Some come) mid.units counted → OwnRoots mid.pages mid.kept mid.geometry x mid.groups counted (gone ∷ [])
+  gone_owns counted counts = subst (λ (root : Root). OwnRoots mid.pages mid.kept mid.geometry x mid.groups counted (root ∷ [])) (sym may.root)
+      (own_gone old mid d disk start.segs moves after version come may.rests works differs (units_of d disk catalog_no) refl few counted counts)
 
+  module _ (is : IsStartOf d disk start) where
     -- before the commit
     pub first_moments : IsWorld x → {y : Outside} → ReadsOnly x y → Leaves x y (StandsForVolume d disk)
     first_moments world reads = leaves_quiet (StandsForVolume d disk)

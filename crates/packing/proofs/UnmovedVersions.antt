@@ -1,6 +1,5 @@
 -- A version whose tree has no high leaf: its root stays, and the volume is at rest.
-use Rattle.std.proofs.Common.{◌≡◌, ◌∙◌, ℕ, Bool, true, List, [], ◌∷◌, Some, refl, sym, ap, subst, inl, inr}
-use Rattle.std.specs.Prelude.{Contains}
+use Rattle.std.proofs.Common.{◌≡◌, ◌∙◌, ℕ, Bool, true, List, [], Some, refl, sym, ap, subst, inl, inr}
 use Rattle.std.specs.List.{AllByRecursion}
 use Rattle.ex_base.specs.declared.names.PageNo.{PageNo}
 use Rattle.ex_base.specs.declared.names.Root.{Root}
@@ -12,7 +11,7 @@ use Rattle.trees.specs.Trees.{IsNamed, Units, root_units, units_on}
 use Rattle.compact.specs.High.{root_high_leaves, root_low_leaves}
 use Rattle.compact.specs.Moved.{Copies, IsSoundPair}
 use Rattle.volume_model.specs.Homes.{home}
-use Rattle.volume_model.specs.Volume.{Decoded, file_pages, units_of}
+use Rattle.volume_model.specs.Volume.{Decoded, units_of}
 use Rattle.volume_port.specs.State.{IsAtRest}
 use Rattle.volume_port.specs.declared.state.VolumeState.{VolumeState}
 use Rattle.packing.specs.Resting.{HasOwnCopies, MovesVersion}

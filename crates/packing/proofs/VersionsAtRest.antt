@@ -1,8 +1,7 @@
 -- A version of a volume at rest, as a port over the volume has it: its tree is whole, and may be moved.
-use Rattle.std.proofs.Common.{◌≡◌, ◌≢◌, ◌∙◌, ◌≤◌, ℕ, Bool, true, false, true≢false, List, [], ◌∷◌, Some, refl, sym, ap, subst, arith, inl, inr}
+use Rattle.std.proofs.Common.{◌≡◌, ◌≢◌, ◌∙◌, ◌≤◌, ℕ, Bool, true, false, true≢false, List, [], ◌∷◌, Some, refl, sym, ap, subst, arith, inl}
 use Rattle.std.specs.Prelude.{Contains}
 use Rattle.std.specs.List.{AllByRecursion}
-use Rattle.std.proofs.lemmas.Bool.{cases_Bool}
 use Rattle.ex_base.specs.declared.geometry.Geometry.{Geometry}
 use Rattle.ex_base.specs.declared.ground.Ground as ground
 use Rattle.ex_base.specs.declared.names.Area.{Area}
@@ -16,7 +15,7 @@ use Rattle.ex_base.specs.Area.{catalog_no}
 use Rattle.ex_base.specs.Ports.{times}
 use Rattle.ex_base.proofs.Counts.{contains_times}
 use Rattle.ex_base.proofs.Each.{each_as}
-use Rattle.ex_base.proofs.Members.{In, contains_in, from_flat, in_contains, into_flat, of_each}
+use Rattle.ex_base.proofs.Members.{In, from_flat, in_contains, into_flat, of_each}
 use Rattle.disk_model.specs.Outside.{Outside}
 use Rattle.file_index.specs.Index.{IsFilesPage}
 use Rattle.file_index.proofs.Heights.{keys_of_pages}
@@ -27,22 +26,21 @@ use Rattle.object_records.specs.Record.{Content, Large}
 use Rattle.op_log.specs.declared.record.LogRecord.{LogRecord}
 use Rattle.page_alloc.specs.UnitSet.{free_count, used_at}
 use Rattle.trees.specs.Damage.{IsWhole}
-use Rattle.trees.specs.Made.{AreUsed, Has}
-use Rattle.trees.specs.Trees.{IsNamed, Units, root_bytes, root_units, units_on}
+use Rattle.trees.specs.Made.{Has}
+use Rattle.trees.specs.Trees.{IsNamed, Units, root_units, units_on}
 use Rattle.versions.specs.Versions.{AreInUse, HasRecord, HasVersion, IsTreeUnit, place_of}
 use Rattle.volume_model.specs.Links.{Apart, HasObjects, stored_units}
-use Rattle.volume_model.specs.Parts.{HasBalance}
-use Rattle.volume_model.specs.Volume.{Decoded, FileContent, Stored, Volume, content_in, file_pages, oid_of, root_in, roots_in, stored_in, units_of}
+use Rattle.volume_model.specs.Volume.{Decoded, FileContent, Stored, Volume, content_in, file_pages, root_in, roots_in, stored_in, units_of}
 use Rattle.volume_edits.specs.Ported.{IsVolume, ShowsVolume, index_named, units_in}
 use Rattle.volume_edits.proofs.Contents.{Beside, pairs}
 use Rattle.volume_edits.proofs.Finding.{beside_file}
 use Rattle.volume_edits.proofs.Frames.{IsTreeOf}
 use Rattle.volume_edits.proofs.Showing.{IsRoot, content_spells, roots_here, stands_in}
 use Rattle.volume_edits.proofs.VolumeTrees.{IsFine, IsVolumeTree, own_units, volume_trees, whole_tree}
-use Rattle.volume_moves.specs.Moves.{AreOfOneObject, IsObjectUnit, IsOfNoOther}
+use Rattle.volume_moves.specs.Moves.{AreOfOneObject, IsObjectUnit}
 use Rattle.volume_port.specs.State.{IsAtRest}
 use Rattle.volume_port.specs.declared.state.VolumeState.{VolumeState}
-use Rattle.compact.specs.High.{each_once, free_below, root_high_leaves}
+use Rattle.compact.specs.High.{free_below}
 use Rattle.compact.specs.Moved.{Copies, IsSoundPair, MayMove, leaves_left, nodes_left}
 use Rattle.packing.specs.Moving.{CopiesAreAway, CopiesAreOwn}
 use Rattle.packing.specs.Resting.{CopyIsOwn, HasOwnCopies, HasRoomFor, IsOwnCopy}

@@ -1,6 +1,6 @@
 -- What a port makes of a volume at rest of which it moves a version's tree, in the words of the volume.
 use mathlib.Core.Path.{fun_ext}
-use Rattle.std.proofs.Common.{◌≡◌, ◌≢◌, ◌∙◌, ◌⊎◌, ◌+◌, ◌<◌, ◌≤◌, ◌↔◌, ℕ, Bool, true, false, true≢false, List, [], ◌∷◌, ◌++◌, length, Option, Some, None, nat_eq, refl, sym, ap, subst, arith, inl, inr}
+use Rattle.std.proofs.Common.{◌≡◌, ◌≢◌, ◌∙◌, ◌+◌, ◌<◌, ◌≤◌, ◌↔◌, ℕ, Bool, true, false, true≢false, List, [], ◌∷◌, ◌++◌, length, Option, Some, None, nat_eq, refl, sym, ap, subst, arith, inl, inr}
 use Rattle.std.specs.Prelude.{Contains, unwrap_or}
 use Rattle.std.specs.List.{AllByRecursion}
 use Rattle.std.specs.Map.{lookup}
@@ -15,36 +15,35 @@ use Rattle.ex_base.specs.declared.names.Root.{Root}
 use Rattle.ex_base.specs.Area.{InPageArea, IsUnit, area_end, catalog_no}
 use Rattle.ex_base.specs.Ports.{refs_most, times}
 use Rattle.ex_base.proofs.Counts.{times_contains}
-use Rattle.ex_base.proofs.Each.{each_as, each_of}
+use Rattle.ex_base.proofs.Each.{each_as}
 use Rattle.disk_model.specs.Changes.{ChangesWithin}
 use Rattle.disk_model.specs.Outside.{IsWorld, Leaves, Outside}
-use Rattle.meta_pages.specs.Overlays.{Overlays, image_at}
+use Rattle.meta_pages.specs.Overlays.{image_at}
 use Rattle.op_log.specs.AfterLog.{logged}
 use Rattle.op_log.specs.State.{LogState}
-use Rattle.page_alloc.specs.UnitSet.{UnitSet, free_count, refs_at, used_at}
-use Rattle.trees.specs.Counted.{Counted, NamesPairs}
+use Rattle.page_alloc.specs.UnitSet.{free_count, refs_at, used_at}
+use Rattle.trees.specs.Counted.{NamesPairs}
 use Rattle.trees.specs.Damage.{IsWhole}
-use Rattle.trees.specs.Made.{AreUsed, Extends, Has, IsTaken}
+use Rattle.trees.specs.Made.{AreUsed, Has, IsTaken}
 use Rattle.trees.specs.Owners.{IsOwned, all_named, root_pages}
-use Rattle.trees.specs.Trees.{IsNamed, RootNamed, Units, root_units, units_on}
+use Rattle.trees.specs.Trees.{IsNamed, Units, root_units, units_on}
 use Rattle.trees.proofs.KeptRoots.{RootKept, spelled_root, units_of_root}
 use Rattle.trees.proofs.RootSteps.{has_each}
 use Rattle.trees.proofs.SameUnits.{Kept, named_same}
-use Rattle.tree_store.specs.Stored.{InRest, IsCounted, NoUnit, Tells, unit_bytes}
-use Rattle.versions.specs.Versions.{IsTreeUnit, place_of}
+use Rattle.tree_store.specs.Stored.{InRest, IsCounted, NoUnit, unit_bytes}
+use Rattle.versions.specs.Versions.{IsTreeUnit}
 use Rattle.volume_model.specs.Committed.{Committed, StandsForVolume}
-use Rattle.volume_model.specs.FreshView.{KnowsUnits, OwnsUnits}
-use Rattle.volume_model.specs.Held.{root_here}
+use Rattle.volume_model.specs.FreshView.{OwnsUnits}
 use Rattle.volume_model.specs.Homes.{home}
-use Rattle.volume_model.specs.Shown.{PageRow, WorkingRow, working_units}
-use Rattle.volume_model.specs.Volume.{Decoded, Volume, file_pages, reach_of, roots_in, stored_in, table_of, units_of}
+use Rattle.volume_model.specs.Shown.{PageRow}
+use Rattle.volume_model.specs.Volume.{Decoded, Volume, file_pages, roots_in, stored_in, units_of}
 use Rattle.volume_model.proofs.OwnersAlike.{pages_leave}
 use Rattle.volume_model.proofs.OwnersMade.{page_in_tree}
 use Rattle.volume_edits.specs.Ported.{IsApart, IsVolume, units_in}
 use Rattle.volume_edits.proofs.Counted.{in_area}
 use Rattle.volume_moves.specs.Moves.{MovesTree}
 use Rattle.volume_moves.proofs.MovedOwners.{few_moved, owned_moved}
-use Rattle.volume_port.specs.Logged.{LoggedSet, is_held}
+use Rattle.volume_port.specs.Logged.{is_held}
 use Rattle.volume_port.specs.State.{IsAtRest, Moved}
 use Rattle.volume_port.specs.Stays.{ReachIsOf, StaysUsed, StillCommitted}
 use Rattle.volume_port.specs.declared.state.VolumeState.{VolumeState}
@@ -53,7 +52,7 @@ use Rattle.volume_port.proofs.WorkingUnits.{image_is, no_image}
 use Rattle.compact.specs.High.{each_once, root_high_leaves, root_low_leaves, root_nodes_above}
 use Rattle.compact.specs.Moved.{AreLow, Copies, IsOwn, IsSoundPair, unmoved}
 use Rattle.packing.specs.Moving.{VersionMoved}
-use Rattle.packing.specs.Resting.{CopyIsOwn, HasOwnCopies}
+use Rattle.packing.specs.Resting.{HasOwnCopies}
 use Rattle.packing.specs.Working.{MovesWorking, TreeMoved, WorkingMoved}
 use Rattle.packing.specs.declared.objects.LargeVersion.{LargeVersion}
 use Rattle.packing.proofs.AtRest.{IsPortWith, at_home, home_units, owned_at_rest, page_at_rest, parts_working, table_at_rest, table_working, unit_shown}
