@@ -17,13 +17,17 @@ use Rattle.volume_port.specs.State.{AreReady, Moved}
 use Rattle.volume_port.specs.declared.state.VolumeState.{VolumeState}
 use Rattle.packing.specs.Resting.{IsIdle}
 
+-- a log in which no record counts
+abbrev pub closed_log : Geometry → LogState
+closed_log g = record { geometry = g; end = 0; count = 0 }
+
 -- where a port left the working pages as many as they were
 pub idle_kept : {w x : Outside} (old new : VolumeState) → IsIdle w.size old → Moved NoUnit w x old new → length new.meta.working ≡ length old.meta.working → IsIdle x.size new
 idle_kept old new idle moved same = record {
   ready = moved.ready;
   log =
       ap (λ (v : VolumeState). v.log) moved.rest ∙ idle.log
-      ∙ ap (λ (g : Geometry). record { geometry = g; end = 0; count = 0 }) (sym (ap (λ (v : VolumeState). v.geometry) moved.rest));
+      ∙ ap closed_log (sym (ap (λ (v : VolumeState). v.geometry) moved.rest));
   working = nil_from_length new.meta.working (same ∙ ap length idle.working);
   committed = moved.committed ∙ idle.committed;
 }
@@ -31,7 +35,7 @@ idle_kept old new idle moved same = record {
 -- once the working pages were committed, and written home
 pub idle_settled : (size later_size : ℕ) (old : VolumeState) (units : UnitSet) (groups : List Frames) (meta : Overlays) (log : LogState) → AreReady size old → later_size ≡ size → IsCounted old.geometry units
     → ((page : ℕ) → is_held old.pages page ≡ true → used_at units page ≡ true) → SameKinds old.groups groups → All (λ (f : Frames). f.page_size ≡ old.geometry.page_size) groups → AreFromCatalog groups
-    → meta.geometry ≡ old.geometry → meta.working ≡ [] → meta.committed ≡ [] → log ≡ record { geometry = old.geometry; end = 0; count = 0 }
+    → meta.geometry ≡ old.geometry → meta.working ≡ [] → meta.committed ≡ [] → log ≡ closed_log old.geometry
     → IsIdle later_size (record old { units = units; groups = groups; meta = meta; log = log })
 idle_settled size later_size old units groups meta log ready same counted in_use kinds sizes behind overlay working committed closed = record {
   ready = record {

@@ -1,7 +1,7 @@
 -- A version's tree that was moved in the working pages, committed and written home.
 use Rattle.std.proofs.Common.{◌≡◌, ◌≢◌, ◌∙◌, ◌⊎◌, ◌+◌, ◌<◌, ◌≤◌, ◌↔◌, ℕ, Bool, true, false, true≢false, cond, List, [], ◌∷◌, ◌++◌, length, Option, Some, None, nat_eq, refl, sym, ap, subst, arith, inl, inr}
 use Rattle.std.specs.Prelude.{Contains, IsSome}
-use Rattle.std.specs.List.{AllByRecursion}
+use Rattle.std.specs.List.{AllByRecursion, flat_map}
 use Rattle.std.specs.Map.{lookup}
 use Rattle.std.proofs.lemmas.Bool.{both_ways, cases_eq, eq-eqb, or_cases}
 use Rattle.std.proofs.lemmas.List.{length-append}
@@ -16,6 +16,8 @@ use Rattle.ex_base.proofs.Each.{each_as, each_from}
 use Rattle.ex_base.proofs.Members.{In, contains_cases, contains_in, in_contains, in_either, in_left, in_right, into_flat}
 use Rattle.disk_model.specs.Outside.{Outside, ReadsOnly}
 use Rattle.meta_pages.specs.Rows.{with_row}
+use Rattle.object_files.specs.Catalog.{Catalog}
+use Rattle.object_records.specs.Record.{Content}
 use Rattle.op_log.specs.AfterLog.{after_log, logged}
 use Rattle.op_log.specs.Decoding.{NumberFollows, last_number}
 use Rattle.op_log.specs.State.{LogState}
@@ -131,7 +133,7 @@ module _ {w x : Outside} (old mid : VolumeState) (d : Decoded) (disk : List ℕ)
   pub may_commit : MayCommit d later with_catalog v.catalog.last now
   may_commit = record {
     follows = subst (λ (rs : List LogRecord). NumberFollows (last_number rs) v.catalog.last) (sym rests.none) tt;
-    last = ap (λ (c : _). c.last) work.catalog;
+    last = ap (λ (c : Catalog). c.last) work.catalog;
     parts = parts_kept d.geometry [] W W' now kept_now work.parts;
     images = each_put (IsWorkingPage now) catalog_no (Some bytes) rows (λ some. inl refl) (images_there now (is_held mid.pages) held_now rows few (λ page image row. working.moved.ready.images page image row));
     kept = λ page there gone. elim (cases_eq page catalog_no) [
@@ -341,7 +343,7 @@ module _ {w x : Outside} (old mid : VolumeState) (d : Decoded) (disk : List ℕ)
         is_there = subst (λ (xs : List Stored). In work.turns.is xs) (sym work.turns.after) (in_right work.turns.is front (work.turns.is ∷ back) (inl refl))
 
         made_there : In made (roots_in (stored_in now))
-        made_there = into_flat (λ (s : Stored). root_in s.body.content) made work.turns.is (stored_in now) is_there (subst (λ (c : _). In made (root_in c)) (sym work.turns.is_root) (inl refl))
+        made_there = into_flat (λ (s : Stored). root_in s.body.content) made work.turns.is (stored_in now) is_there (subst (λ (c : Content). In made (root_in c)) (sym work.turns.is_root) (inl refl))
 
         -- what was taken is in the new tree, and so in use
         has_in : (us : List ℕ) (u : ℕ) → Has us u → In u us
@@ -352,7 +354,7 @@ module _ {w x : Outside} (old mid : VolumeState) (d : Decoded) (disk : List ℕ)
         stays_in_use : (u : ℕ) → used_at old.units u ≡ false → used_at mid.units u ≡ true → used_at new.units u ≡ true
         stays_in_use u free taken =
             let there : In u (root_units F made) = subst (λ (us : List ℕ). In u us) (sym made_units) (has_in (root_units H made) u (working.tree.taken u free taken)) in
-            let reached : Contains (reach_of F now) u = contains_in u (reach_of F now) (in_right u (catalog_no ∷ file_pages now) _ (into_flat (root_units F) u made (roots_in (stored_in now)) made_there there)) in
+            let reached : Contains (reach_of F now) u = contains_in u (reach_of F now) (in_right u (catalog_no ∷ file_pages now) (flat_map (root_units F) (roots_in (stored_in now))) (into_flat (root_units F) u made (roots_in (stored_in now)) made_there there)) in
             (again.knows.units u).1 reached
 
         pub moves_version : MovesVersion q old new d disk dense moves after version
