@@ -1,37 +1,21 @@
 -- What an export answers, of what its calls did.
-use Rattle.std.proofs.Common.{◌≡◌, ◌∙◌, sym, subst, ℕ, List, length, Option, Some, Result, Ok, Err, IfOk}
+use Rattle.std.proofs.Common.{◌≡◌, ◌∙◌, sym, subst, ℕ, List, Option, Some, Result, Ok, Err, IfOk}
 use Rattle.std.proofs.lemmas.Option.{same_Some}
 use Rattle.std.specs.Prelude.{⊤}
-use Rattle.ex_base.specs.declared.names.Oid.{Oid}
 use Rattle.table_model.specs.declared.reply.Reply.{Reply}
 use Rattle.table_model.specs.Requests.{Request}
-use Rattle.session_core.specs.Meant.{meant}
 use Rattle.session_core.specs.Sessions.{SessionState}
 use Rattle.volume_calls.specs.declared.volume.LentVolume.{LentVolume}
 use Rattle.volume_calls.specs.declared.volume.NotDone.{NotDone}
-use Rattle.volume_calls.specs.Volumes.{Called, IsLentTo}
+use Rattle.volume_calls.specs.Volumes.{IsLentTo}
 use Rattle.exsm_c.specs.declared.open.Open.{Open}
-use Rattle.exsm_c.specs.Answers.{HasNames, HasOids, SameVolume, Steps}
+use Rattle.exsm_c.specs.Answers.{Steps}
 use Rattle.exsm_c.specs.Owned.{IsLentBy, fits}
-use Rattle.exsm_c.specs.Told.{names_in, oids_in}
 
 -- where nothing is told
 pub nothing_told : (result : Result Reply NotDone) → IfOk result (λ told. ⊤)
 nothing_told (Ok told) = tt
 nothing_told (Err why) = tt
-
--- A list that was told is kept beside the volume.
-pub steps_kept : {was mid is : Option Open} {image now : List ℕ} {r : Request} {result : Result Reply NotDone} → Steps was mid image now r result → SameVolume mid is → Steps was is image now r result
-steps_kept {was} {mid} {is} {image} {now} {r} {result} steps same =
-    let one : steps.after ≡ same.before = same_Some steps.after same.before (sym steps.has ∙ same.had) in
-    let volume : steps.after.volume ≡ same.after.volume = subst (λ (x : Open). x.volume ≡ same.after.volume) (sym one) (sym same.volume) in
-    record {
-      before = steps.before;
-      after = same.after;
-      had = steps.had;
-      has = same.has;
-      called = subst (λ (v : LentVolume SessionState). Called meant fits steps.before.volume v image now r result) volume steps.called;
-    }
 
 -- What holds of the handle's volume holds of each that it has.
 pub each_open : (P : Open → Type 0) (value : Option Open) (y : Open) → value ≡ Some y → P y → (x : Open) → value ≡ Some x → P x
@@ -49,20 +33,3 @@ over_loan P {taken} {lent} {left} {back} same kept holds =
 -- A call asks what is the same as its request.
 pub steps_same : {was is : Option Open} {image now : List ℕ} {r s : Request} {result : Result Reply NotDone} → Steps was is image now r result → r ≡ s → Steps was is image now s result
 steps_same {was} {is} {image} {now} {r} {s} {result} steps same = subst (λ (x : Request). Steps was is image now x result) same steps
-
--- a list that was told
-pub names_kept : (names : List (List ℕ)) (count : ℕ) (value : Option Open) (y : Open) → value ≡ Some y → y.names ≡ names → count ≡ length names → HasNames value names count
-names_kept names count value y has are so_many = (so_many, each_open (λ (x : Open). x.names ≡ names) value y has are)
-
-pub oids_kept : (oids : List Oid) (count : ℕ) (value : Option Open) (y : Open) → value ≡ Some y → y.oids ≡ oids → count ≡ length oids → HasOids value oids count
-oids_kept oids count value y has are so_many = (so_many, each_open (λ (x : Open). x.oids ≡ oids) value y has are)
-
-pub told_names : (result : Result Reply NotDone) (names : List (List ℕ)) (count : ℕ) (value : Option Open) (y : Open) → value ≡ Some y → y.names ≡ names
-    → IfOk result (λ reply. (names ≡ names_in reply) × (count ≡ length (names_in reply))) → IfOk result (λ reply. HasNames value (names_in reply) count)
-told_names (Ok reply) names count value y has are told = names_kept (names_in reply) count value y has (are ∙ told.0) told.1
-told_names (Err why) names count value y has are told = tt
-
-pub told_oids : (result : Result Reply NotDone) (oids : List Oid) (count : ℕ) (value : Option Open) (y : Open) → value ≡ Some y → y.oids ≡ oids
-    → IfOk result (λ reply. (oids ≡ oids_in reply) × (count ≡ length (oids_in reply))) → IfOk result (λ reply. HasOids value (oids_in reply) count)
-told_oids (Ok reply) oids count value y has are told = oids_kept (oids_in reply) count value y has (are ∙ told.0) told.1
-told_oids (Err why) oids count value y has are told = tt

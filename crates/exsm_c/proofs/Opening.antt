@@ -27,20 +27,21 @@ lent_first file asked image is none = (
 )
 
 module _ (file : List ℕ) (asked : List Asked) (image : List ℕ) (lent : (state_after file asked).disk ≡ image) where
-  -- A volume that was opened on the image shows its table.
-  pub opened_on : (volume : LentVolume SessionState) (now : List ℕ) (value : Option Open) → IsLentTo fits volume now → OpensVolume meant IsFresh (outside_of file asked 0 0) (Ok volume)
-      → HasVolume value volume → (table : Table) × meant.StandsFor image table × IsOpenedOn value now table
-  opened_on volume now value left opens has =
+  -- A volume that was opened on the image stands for a table,
+  pub stands_for : (volume : LentVolume SessionState) → OpensVolume meant IsFresh (outside_of file asked 0 0) (Ok volume) → (table : Table) × meant.StandsFor image table
+  stands_for volume opens =
       let told = opens.stands (state_after file asked).disk refl in
-      let shows = opens.shows (state_after file asked).disk told.0 refl refl told.1 in (
-        told.0,
-        subst (λ (d : List ℕ). meant.StandsFor d told.0) lent told.1,
-        (
-          has.0,
-          has.1,
-          subst (λ (v : LentVolume SessionState). IsLentTo fits v now) (sym has.2) left,
-          subst (λ (v : LentVolume SessionState). Opened meant IsFresh told.0 v.session (outside_at v)) (sym has.2) shows,
-        ),
+      (told.0, subst (λ (d : List ℕ). meant.StandsFor d told.0) lent told.1)
+
+  -- and shows each for which it stands.
+  pub opened_on : (table : Table) (volume : LentVolume SessionState) (now : List ℕ) (value : Option Open) → IsLentTo fits volume now → OpensVolume meant IsFresh (outside_of file asked 0 0) (Ok volume)
+      → HasVolume value volume → meant.StandsFor image table → IsOpenedOn value now table
+  opened_on table volume now value left opens has stands =
+      let shows = opens.shows (state_after file asked).disk table refl refl (subst (λ (d : List ℕ). meant.StandsFor d table) (sym lent) stands) in (
+        has.0,
+        has.1,
+        subst (λ (v : LentVolume SessionState). IsLentTo fits v now) (sym has.2) left,
+        subst (λ (v : LentVolume SessionState). Opened meant IsFresh table v.session (outside_at v)) (sym has.2) shows,
       )
 
   -- Of a bad one the first part that fails is told.

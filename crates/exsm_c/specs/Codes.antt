@@ -1,5 +1,5 @@
 -- What an export answers.
-use Rattle.std.specs.Prelude.{ℕ, List, length, nat_le, nat_lt, Option, Some, None, Result, Ok, Err, if◌then◌else◌}
+use Rattle.std.specs.Prelude.{◌≡◌, ◌⊎◌, ℕ, List, length, nat_le, nat_lt, Option, Some, None, Result, Ok, Err, if◌then◌else◌}
 use Rattle.table_model.specs.declared.reply.Refusal.{Refusal}
 use Rattle.table_model.specs.declared.reply.Refusal.TheVariants as refusal
 use Rattle.session_views.specs.declared.stop.Stop.{Stop}
@@ -73,6 +73,10 @@ code_of_status status.OutputFault = 0
 code_of_status status.AlreadyVolume = 107
 code_of_status (status.TooSmall have need) = 108
 code_of_status _ = 100
+
+-- the codes of a volume that is to be made of sizes that keep their limits
+abbrev pub IsMakingCode : ℕ → Type 0
+IsMakingCode code = (code ≡ 0) ⊎ ((code ≡ 100) ⊎ ((code ≡ 107) ⊎ (code ≡ 108)))
 
 -- the code of a call that wasn't done
 abbrev pub code_of_why : NotDone → ℕ

@@ -1,6 +1,9 @@
 -- What is handed out of a reply.
-use Rattle.std.specs.Prelude.{◌≡◌, ℕ, ◌+◌, List, [], length, min, slice_get, nat_eq, nat_le, true, false, Option, None, Some, if◌then◌else◌}
+use Rattle.std.specs.Prelude.{◌≡◌, ℕ, ◌+◌, List, [], length, min, slice_get, nat_eq, nat_le, true, false, Option, None, Some, Result, Ok, Err, if◌then◌else◌}
 use Rattle.ex_base.specs.Bytes.{part}
+use Rattle.ex_base.specs.Fault.{first_fault}
+use Rattle.ex_base.specs.declared.geometry.Geometry.{Geometry}
+use Rattle.ex_base.specs.declared.geometry.GeometryFault.{GeometryFault}
 use Rattle.ex_base.specs.declared.names.Oid.{Oid}
 use Rattle.table_model.specs.declared.reply.Reply.{Reply}
 use Rattle.table_model.specs.declared.reply.Reply.TheVariants as reply
@@ -9,11 +12,13 @@ use Rattle.table_model.specs.Words.{data_most}
 use Rattle.lent_host.specs.declared.host.Asked.{Asked}
 use Rattle.lent_host.specs.declared.host.Asked.TheVariants.{Write, Sync}
 use Rattle.transactions.specs.declared.summary.Summary.{Summary}
+use Rattle.volume_calls.specs.declared.volume.NotDone.{NotDone}
 use Rattle.exsm_c.specs.Most.{most_of}
 use Rattle.exsm_c.specs.declared.passed.AskedCall.{AskedCall}
 use Rattle.exsm_c.specs.declared.passed.Counts.{Counts}
 use Rattle.exsm_c.specs.declared.passed.Identifier.{Identifier}
 use Rattle.exsm_c.specs.declared.passed.Shape.{Shape}
+use Rattle.exsm_c.specs.declared.passed.Sizes.{Sizes}
 use Rattle.exsm_c.specs.declared.passed.Units.{Units}
 
 -- the version that an identifier names
@@ -22,6 +27,18 @@ numbered x = Numbered x.page x.slot x.unique
 
 abbrev pub identifier_of : Oid → Identifier
 identifier_of oid = record { page = oid.page.0; slot = oid.slot; unique = oid.unique }
+
+-- the first of these sizes that breaks its limit
+abbrev pub fault_of : Sizes → Option GeometryFault
+fault_of s = first_fault s.page_size s.pages s.segs s.seg_len s.fan
+
+-- The geometry has these sizes.
+pub record HasSizes (g : Geometry) (s : Sizes) : Type 0 where
+  pub page_size : g.page_size ≡ s.page_size
+  pub pages : g.pages ≡ s.pages
+  pub segs : g.segs ≡ s.segs
+  pub seg_len : g.seg_len ≡ s.seg_len
+  pub fan : g.fan ≡ s.fan
 
 -- the count of bytes that is asked for; one over the limit of a call stays so
 abbrev pub wanted : ℕ → ℕ
@@ -86,6 +103,16 @@ abbrev pub oids_in : Reply → List Oid
 oids_in (reply.List oids) = oids
 oids_in (reply.Versions oids) = oids
 oids_in _ = []
+
+-- the names of the last list of them, behind a call that may have told some
+abbrev pub names_after : Result Reply NotDone → List (List ℕ) → List (List ℕ)
+names_after (Ok told) before = names_in told
+names_after (Err why) before = before
+
+-- or the identifiers
+abbrev pub oids_after : Result Reply NotDone → List Oid → List Oid
+oids_after (Ok told) before = oids_in told
+oids_after (Err why) before = before
 
 -- It begins with the bytes, as many as it has room for.
 abbrev pub BeginsWith : List ℕ → List ℕ → Type 0

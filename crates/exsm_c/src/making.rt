@@ -3,7 +3,7 @@ ghost use Rattle.std.specs.Prelude.{◌≡◌, ◌≤◌, length};
 ghost use Rattle.ex_base.specs.Sizes.{volume_bytes};
 ghost use Rattle.lent_host.specs.Host.{outside_over};
 ghost use Rattle.lent_host.specs.Lent.{IsLent, outside_of};
-ghost use Rattle.exsm_c.specs.Answers.{SumsOver};
+ghost use Rattle.exsm_c.specs.Answers.{MakesOver, SumsOver};
 ghost use Rattle.exsm_c.specs.Owned.{fits};
 ghost use Rattle.volume_calls.specs.Volumes.{IsLentTo, SameBeside, outside_at};
 
@@ -20,6 +20,7 @@ fn make_kept(alloc: Global, host: &mut LentHost<'_>, geometry: &Geometry) -> Sta
     ensures image { host.new.image.ghost_name ≡ host.old.image.ghost_name }
     ensures asked { host.new.asked.ghost_name ≡ host.old.asked.ghost_name }
     ensures file { host.new.file.now.bytes ≡ host.old.file.now.bytes }
+    ensures makes { MakesOver geometry.now (outside_over host.old) (outside_over host.new) result }
 {
     make_volume(alloc, host, geometry)
 }
@@ -33,7 +34,9 @@ pub(crate) fn make(
     geometry: &Geometry,
 ) -> Status
     requires { IsLent file.now.bytes asked.old.items image.old }
-    ensures { IsLent file.now.bytes asked.new.items image.new }
+    ensures lent { IsLent file.now.bytes asked.new.items image.new }
+    ensures makes { MakesOver geometry.now (outside_of file.now.bytes asked.old.items 0 0)
+        (outside_of file.now.bytes asked.new.items 0 0) result }
 {
     let mut host = LentHost::over(alloc, file, image, asked);
     make_kept(alloc, &mut host, geometry)
@@ -87,6 +90,7 @@ pub(crate) fn sum_of(
     ensures sums { SumsOver volume.old.session volume.new.session (outside_at volume.old)
         (outside_at volume.new) result }
     ensures beside { SameBeside volume.old volume.new }
+    ensures file { volume.new.file.bytes ≡ volume.old.file.bytes }
 {
     if image.len() != volume.size {
         return Err(NotDone::Misuse);

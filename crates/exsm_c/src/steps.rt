@@ -1,9 +1,9 @@
 //! Calls on the volume of a handle.
 ghost use Rattle.std.specs.Prelude.{◌≡◌, ◌≢◌, IfOk, length};
-ghost use Rattle.exsm_c.specs.Answers.{AnswersLine, HasNames, HasOids, SameVolume, Steps, Unstepped};
+ghost use Rattle.exsm_c.specs.Answers.{AnswersLine, KeepsNames, KeepsOids, Steps, Unstepped};
 ghost use Rattle.exsm_c.specs.Codes.{code_of, code_of_why};
 ghost use Rattle.exsm_c.specs.Owned.{IsLentBy, IsOpen};
-ghost use Rattle.exsm_c.specs.Told.{names_in, oids_in};
+ghost use Rattle.exsm_c.specs.Told.{names_after, names_in, oids_after, oids_in};
 ghost use Rattle.table_model.specs.Requests.{request_of};
 ghost use Rattle.volume_calls.specs.Lines.{line_of};
 
@@ -36,7 +36,7 @@ pub(crate) fn step(
 pub(crate) fn refuse(alloc: Global, handle: &mut Handle, why: NotDone) -> u32
     requires { IsOpen handle.old.value }
     ensures code { result ≡ code_of_why why }
-    ensures volume { Unstepped handle.old.value handle.new.value }
+    ensures nothing { Unstepped handle.old.value handle.new.value why }
 {
     let mut open = take(alloc, handle);
     open.why = Some(why);
@@ -63,9 +63,9 @@ fn turn_names(
     told: Result<Reply, NotDone>,
     count: &mut usize,
 ) -> u32
+    ensures names { names.new ≡ names_after told names.old }
     ensures code { result ≡ code_of told }
-    ensures told { IfOk told (λ reply. (names.new ≡ names_in reply)
-        × (count.new ≡ length (names_in reply))) }
+    ensures count { IfOk told (λ reply. count.new ≡ length (names_in reply)) }
     ensures same { result ≢ 0 → count.new ≡ count.old }
 {
     match told {
@@ -85,9 +85,9 @@ fn turn_oids(
     told: Result<Reply, NotDone>,
     count: &mut usize,
 ) -> u32
+    ensures oids { oids.new ≡ oids_after told oids.old }
     ensures code { result ≡ code_of told }
-    ensures told { IfOk told (λ reply. (oids.new ≡ oids_in reply)
-        × (count.new ≡ length (oids_in reply))) }
+    ensures count { IfOk told (λ reply. count.new ≡ length (oids_in reply)) }
     ensures same { result ≢ 0 → count.new ≡ count.old }
 {
     match told {
@@ -108,9 +108,9 @@ pub(crate) fn keep_names(
     count: &mut usize,
 ) -> u32
     requires { IsOpen handle.old.value }
-    ensures volume { SameVolume handle.old.value handle.new.value }
+    ensures keeps { KeepsNames handle.old.value handle.new.value told }
     ensures code { result ≡ code_of told }
-    ensures told { IfOk told (λ reply. HasNames handle.new.value (names_in reply) count.new) }
+    ensures count { IfOk told (λ reply. count.new ≡ length (names_in reply)) }
     ensures same { result ≢ 0 → count.new ≡ count.old }
 {
     let mut open = take(alloc, handle);
@@ -127,9 +127,9 @@ pub(crate) fn keep_oids(
     count: &mut usize,
 ) -> u32
     requires { IsOpen handle.old.value }
-    ensures volume { SameVolume handle.old.value handle.new.value }
+    ensures keeps { KeepsOids handle.old.value handle.new.value told }
     ensures code { result ≡ code_of told }
-    ensures told { IfOk told (λ reply. HasOids handle.new.value (oids_in reply) count.new) }
+    ensures count { IfOk told (λ reply. count.new ≡ length (oids_in reply)) }
     ensures same { result ≢ 0 → count.new ≡ count.old }
 {
     let mut open = take(alloc, handle);

@@ -381,6 +381,7 @@ pub(crate) fn tell_call(asked: &[Asked], i: usize, call: &mut AskedCall, out: &m
     ensures code { result ≡ code_at asked.now i }
     ensures told { result ≡ 0 → TellsAt asked.now i call.new out.new }
     ensures same { result ≢ 0 → call.new ≡ call.old }
+    ensures same_out { result ≢ 0 → out.new ≡ out.old }
 {
     if i < asked.len() {
         *call = told_call(&asked[i], out);

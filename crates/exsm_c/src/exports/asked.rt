@@ -38,6 +38,7 @@ pub extern "C" fn exsm_core_call(
         → result ≡ code_at had.volume.asked.items i }
     ensures told { result ≡ 0 → HasCall handle.old.value i call.new out.new }
     ensures same { result ≢ 0 → call.new ≡ call.old }
+    ensures same_out { result ≢ 0 → out.new ≡ out.old }
 {
     let open = take(alloc, handle);
     let code = tell_call(&open.volume.asked, i, call, out);

@@ -3,6 +3,8 @@ ghost use Rattle.std.specs.Prelude.{◌≡◌, ◌≢◌, ◌⊎◌, IfOk, repli
 ghost use Rattle.exsm_c.specs.Answers.{Answers, Unstepped};
 ghost use Rattle.exsm_c.specs.Owned.{IsLentBy};
 ghost use Rattle.exsm_c.specs.Told.{numbered, size_in, wanted};
+ghost use Rattle.session_views.specs.declared.stop.Stop.{Stop};
+ghost use Rattle.volume_calls.specs.declared.volume.NotDone.TheVariants.{Stopped};
 ghost use Rattle.table_model.specs.Requests.{Append, ByBytes, Delete, Insert, Replace};
 
 use crate::handle::Handle;
@@ -151,7 +153,8 @@ pub extern "C" fn exsm_core_fill(
     size: &mut u64,
 ) -> u32
     requires { IsLentBy handle.old.value image.old }
-    ensures answers { ((result ≡ 100) × Unstepped handle.old.value handle.new.value
+    ensures answers { ((result ≡ 100)
+        × Unstepped handle.old.value handle.new.value (Stopped Stop.Memory)
         × (image.new ≡ image.old))
         ⊎ Answers handle.old.value handle.new.value image.old image.new
         (Append (numbered x.now) (ByBytes (replicate (wanted count) byte))) result

@@ -1,8 +1,7 @@
 //! Files, for C.
 ghost use Rattle.std.specs.Prelude.{◌≡◌, ◌≢◌, ⊤};
-ghost use Rattle.exsm_c.specs.Answers.{Answers, HasNames, HasOids};
+ghost use Rattle.exsm_c.specs.Answers.{Answers, AnswersNames, AnswersOids};
 ghost use Rattle.exsm_c.specs.Owned.{IsLentBy};
-ghost use Rattle.exsm_c.specs.Told.{names_in, oids_in};
 ghost use Rattle.table_model.specs.Requests.{File, Files, ListFile, Unfile};
 
 use crate::handle::Handle;
@@ -54,9 +53,8 @@ pub extern "C" fn exsm_core_files(
     count: &mut usize,
 ) -> u32
     requires { IsLentBy handle.old.value image.old }
-    ensures answers { Answers handle.old.value handle.new.value image.old image.new
-        (Files) result
-        (λ told. HasNames handle.new.value (names_in told) count.new) }
+    ensures answers { AnswersNames handle.old.value handle.new.value image.old image.new
+        (Files) result count.new }
     ensures same { result ≢ 0 → count.new ≡ count.old }
 {
     let told = step(alloc, handle, image, &Command::Files);
@@ -73,9 +71,8 @@ pub extern "C" fn exsm_core_list(
     count: &mut usize,
 ) -> u32
     requires { IsLentBy handle.old.value image.old }
-    ensures answers { Answers handle.old.value handle.new.value image.old image.new
-        (ListFile name.now) result
-        (λ told. HasOids handle.new.value (oids_in told) count.new) }
+    ensures answers { AnswersOids handle.old.value handle.new.value image.old image.new
+        (ListFile name.now) result count.new }
     ensures same { result ≢ 0 → count.new ≡ count.old }
 {
     let told = step(alloc, handle, image, &Command::List { name });

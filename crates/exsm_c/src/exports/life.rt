@@ -5,7 +5,7 @@ ghost use Rattle.session_core.specs.Meant.{meant};
 ghost use Rattle.session_views.specs.declared.part.Part.{Part};
 ghost use Rattle.exsm_c.specs.Codes.{code_of_room, number_of_part};
 ghost use Rattle.exsm_c.specs.declared.open.Open.{Open};
-ghost use Rattle.exsm_c.specs.Answers.{AnswersLine, HasText, HasTextOf, HasVolume, IsOpenedOn};
+ghost use Rattle.exsm_c.specs.Answers.{AnswersLine, HasText, HasTextOf, HasVolume, IsOpenedOn, Makes, MakesOn};
 ghost use Rattle.exsm_c.specs.Owned.{IsLentBy, IsOpen};
 ghost use Rattle.exsm_c.specs.Whys.{why_told};
 ghost use Rattle.lent_host.specs.Lent.{IsLent};
@@ -58,8 +58,9 @@ fn open_behind(
 ) -> u32
     requires none { handle.old.value ≡ None }
     requires lent { IsLent file.bytes asked.items image.old }
-    ensures opened { result ≡ 0 → (table : Table) × meant.StandsFor image.old table
-        × IsOpenedOn handle.new.value image.new table }
+    ensures stands { result ≡ 0 → (table : Table) × meant.StandsFor image.old table }
+    ensures opened { (table : Table) → result ≡ 0 → meant.StandsFor image.old table
+        → IsOpenedOn handle.new.value image.new table }
     ensures refused { result ≢ 0 → handle.new.value ≡ None }
     ensures bad { result ≡ 104 → (first : Part) × meant.FirstBad image.old first
         × (part.new ≡ number_of_part first) }
@@ -81,8 +82,9 @@ pub extern "C" fn exsm_core_open(
     part: &mut u8,
 ) -> u32
     requires { handle.old.value ≡ None }
-    ensures opened { result ≡ 0 → (table : Table) × meant.StandsFor image.old table
-        × IsOpenedOn handle.new.value image.new table }
+    ensures stands { result ≡ 0 → (table : Table) × meant.StandsFor image.old table }
+    ensures opened { (table : Table) → result ≡ 0 → meant.StandsFor image.old table
+        → IsOpenedOn handle.new.value image.new table }
     ensures refused { result ≢ 0 → handle.new.value ≡ None }
     ensures bad { result ≡ 104 → (first : Part) × meant.FirstBad image.old first
         × (part.new ≡ number_of_part first) }
@@ -91,6 +93,22 @@ pub extern "C" fn exsm_core_open(
 {
     let file = FileBytes::of(image);
     open_behind(alloc, handle, file, image, Vec::new(alloc), part)
+}
+
+// Makes an empty volume on an image that holds none, and gives it to the handle.
+fn make_behind(alloc: Global, handle: &mut Handle, image: &mut [u8], geometry: &Geometry) -> u32
+    requires { handle.old.value ≡ None }
+    ensures makes { MakesOn geometry.now image.old image.new handle.new.value result }
+    ensures refused { result ≢ 0 → handle.new.value ≡ None }
+{
+    let file = FileBytes::of(image);
+    let mut asked = Vec::new(alloc);
+    let code = code_of_status(make(alloc, &file, image, &mut asked, geometry));
+    if code != OK {
+        return code;
+    }
+    let mut part = 0;
+    open_behind(alloc, handle, file, image, asked, &mut part)
 }
 
 /// Makes an empty volume of these sizes on an image that holds none, and opens it. The calls that make it are listed first.
@@ -102,26 +120,19 @@ pub extern "C" fn exsm_core_make(
     sizes: &Sizes,
 ) -> u32
     requires { handle.old.value ≡ None }
-    ensures opened { result ≡ 0 → (table : Table) × IsOpenedOn handle.new.value image.new table }
+    ensures makes { Makes sizes.now image.old image.new handle.new.value result }
     ensures refused { result ≢ 0 → handle.new.value ≡ None }
 {
-    let Ok(geometry) = Geometry::make(
+    match Geometry::make(
         sizes.page_size,
         sizes.pages,
         sizes.segs,
         sizes.seg_len,
         sizes.fan,
-    ) else {
-        return BAD_VOLUME;
-    };
-    let file = FileBytes::of(image);
-    let mut asked = Vec::new(alloc);
-    let code = code_of_status(make(alloc, &file, image, &mut asked, &geometry));
-    if code != OK {
-        return code;
+    ) {
+        Ok(geometry) => make_behind(alloc, handle, image, &geometry),
+        Err(_) => BAD_VOLUME,
     }
-    let mut part = 0;
-    open_behind(alloc, handle, file, image, asked, &mut part)
 }
 
 /// Frees what the handle has. It has none then.

@@ -1,8 +1,8 @@
 //! Versions of objects, for C.
 ghost use Rattle.std.specs.Prelude.{◌≡◌, ◌≢◌, ⊤, None};
-ghost use Rattle.exsm_c.specs.Answers.{Answers, HasOids};
+ghost use Rattle.exsm_c.specs.Answers.{Answers, AnswersOids};
 ghost use Rattle.exsm_c.specs.Owned.{IsLentBy};
-ghost use Rattle.exsm_c.specs.Told.{identifier_in, numbered, oids_in};
+ghost use Rattle.exsm_c.specs.Told.{identifier_in, numbered};
 ghost use Rattle.table_model.specs.Requests.{Derive, DropVersion, Freeze, Versions};
 
 use crate::handle::Handle;
@@ -76,9 +76,8 @@ pub extern "C" fn exsm_core_versions(
     count: &mut usize,
 ) -> u32
     requires { IsLentBy handle.old.value image.old }
-    ensures answers { Answers handle.old.value handle.new.value image.old image.new
-        (Versions (numbered x.now)) result
-        (λ told. HasOids handle.new.value (oids_in told) count.new) }
+    ensures answers { AnswersOids handle.old.value handle.new.value image.old image.new
+        (Versions (numbered x.now)) result count.new }
     ensures same { result ≢ 0 → count.new ≡ count.old }
 {
     let told = step(alloc, handle, image, &Command::Versions { x: x.subject() });

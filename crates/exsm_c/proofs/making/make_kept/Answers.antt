@@ -1,3 +1,4 @@
+use Rattle.std.proofs.Common.{◌∙◌, ⊎_elim}
 use Rattle.lent_host.specs.Host.{same_loans}
 use Rattle.exsm_c.proofs.making.make_kept.Goals as goal
 
@@ -9,3 +10,17 @@ returns-clause-asked c = (same_loans c.args.host.now c.format.new.host c.format.
 
 pub returns-clause-file : goal.returns-clause-file
 returns-clause-file c = (same_loans c.args.host.now c.format.new.host c.format.ensures.left).file
+
+pub returns-clause-makes : goal.returns-clause-makes
+returns-clause-makes c = record {
+  answers = record {
+    one_of = c.format.ensures.one_of;
+    small = c.format.ensures.small;
+    too_small = c.format.ensures.too_small;
+    volume = c.format.ensures.volume;
+    large = c.format.ensures.large;
+    magic = c.format.ensures.magic;
+  };
+  keeps = λ d holds why. (c.format.ensures.keeps d holds why).nothing.disk ∙ holds;
+  makes = λ made honest d holds. ⊎_elim (λ done. c.format.ensures.formatted done honest d holds) (λ untold. c.format.ensures.untold untold honest d holds) made;
+}

@@ -1,16 +1,16 @@
-use Rattle.std.proofs.Common.{ap, refl}
+use Rattle.std.proofs.Common.{◌∙◌, ap}
+use Rattle.exsm_c.specs.Told.{names_after}
 use Rattle.exsm_c.specs.declared.open.Open.{Open}
-use Rattle.exsm_c.proofs.Answering.{told_names}
 use Rattle.exsm_c.proofs.steps.keep_names.Goals as goal
 
-pub returns-clause-volume : goal.returns-clause-volume
-returns-clause-volume c = record {
+pub returns-clause-keeps : goal.returns-clause-keeps
+returns-clause-keeps c = record {
   before = c.take-open.result.value;
   after = _;
   had = c.take-open.ensures.was;
   has = c.give.ensures;
   volume = ap (λ (x : Open). x.volume) c.deref_mut.ensures.value;
+  why = ap (λ (x : Open). x.why) c.deref_mut.ensures.value;
+  names = c.turn_names-code.ensures.names ∙ ap (λ (x : Open). names_after c.args.told x.names) c.deref_mut.ensures.value;
+  oids = ap (λ (x : Open). x.oids) c.deref_mut.ensures.value;
 }
-
-pub returns-clause-told : goal.returns-clause-told
-returns-clause-told c = told_names c.args.told c.turn_names-code.new.names c.turn_names-code.new.count _ _ c.give.ensures refl c.turn_names-code.ensures.told

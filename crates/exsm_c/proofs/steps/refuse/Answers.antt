@@ -1,15 +1,14 @@
-use Rattle.std.proofs.Common.{ap}
+use Rattle.std.proofs.Common.{ap, refl}
 use Rattle.exsm_c.specs.declared.open.Open.{Open}
 use Rattle.exsm_c.proofs.steps.refuse.Goals as goal
 
-pub returns-clause-volume : goal.returns-clause-volume
-returns-clause-volume c = record {
+pub returns-clause-nothing : goal.returns-clause-nothing
+returns-clause-nothing c = record {
   before = c.take-open.result.value;
   after = _;
   had = c.take-open.ensures.was;
   has = c.give.ensures;
-  session = ap (λ (x : Open). x.volume.session) c.deref_mut.ensures.value;
-  asked = ap (λ (x : Open). x.volume.asked.items) c.deref_mut.ensures.value;
-  file = ap (λ (x : Open). x.volume.file.bytes) c.deref_mut.ensures.value;
-  size = ap (λ (x : Open). x.volume.size) c.deref_mut.ensures.value;
+  volume = ap (λ (x : Open). x.volume) c.deref_mut.ensures.value;
+  kept = refl;
+  lists = record { names = ap (λ (x : Open). x.names) c.deref_mut.ensures.value; oids = ap (λ (x : Open). x.oids) c.deref_mut.ensures.value };
 }

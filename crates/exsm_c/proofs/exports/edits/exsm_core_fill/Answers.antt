@@ -8,7 +8,7 @@ pub refuse-requires : goal.refuse-requires
 refuse-requires c = (c.requires.0, c.requires.1)
 
 pub returns-in_default-clause-answers : goal.returns-in_default-clause-answers
-returns-in_default-clause-answers c = inl (c.refuse.ensures.code, c.refuse.ensures.volume, refl)
+returns-in_default-clause-answers c = inl (c.refuse.ensures.code, c.refuse.ensures.nothing, refl)
 
 pub returns-clause-answers : goal.returns-clause-answers
 returns-clause-answers c = inr (record {
