@@ -68,6 +68,11 @@ pub fn format<H: Host>(alloc: Global, host: &mut H, geometry: &Geometry) -> Stat
         → (H.outside host.old).disk ≡ Some d
         → IsFormatted geometry.now (H.outside host.new) }
 
+    // The volume is whole before it is told, so it stands where the line can't be sent, too.
+    ensures untold { result ≡ Status.OutputFault → IsTrue (H.outside host.old).honest
+        → (d : List ℕ) → (H.outside host.old).disk ≡ Some d
+        → IsFormatted geometry.now (H.outside host.new) }
+
     // A crash at any moment leaves no volume, or the empty one, and once a byte was sent the empty one.
     ensures any_moment { (d was : List ℕ) → RestsOn (H.outside host.old) d → (HasMagic d → ⊥)
         → (H.outside host.old).sent ≡ Some was

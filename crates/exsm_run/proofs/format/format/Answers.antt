@@ -40,6 +40,11 @@ returns-clause-formatted g c same honest d holds =
     let made = if_no_error c.lay_out.result (sym c.is_err-2.ensures.value ∙ c.if-is_err-2.false) c.lay_out.ensures.formatted (honest_on c.read.ensures.only.nothing.only.goes honest) d (c.read.ensures.only.nothing.disk ∙ holds) in
     record { disk = made.disk; rests = rests_sent made.disk made.rests c.send_all.ensures.only; empty = made.empty }
 
+pub returns-then-is_err-3-clause-untold : goal.returns-then-is_err-3-clause-untold
+returns-then-is_err-3-clause-untold g c same honest d holds =
+    let made = if_no_error c.lay_out.result (sym c.is_err-2.ensures.value ∙ c.if-is_err-2.false) c.lay_out.ensures.formatted (honest_on c.read.ensures.only.nothing.only.goes honest) d (c.read.ensures.only.nothing.disk ∙ holds) in
+    record { disk = made.disk; rests = rests_sent made.disk made.rests c.send_all.ensures.only; empty = made.empty }
+
 pub returns-clause-any_moment : goal.returns-clause-any_moment
 returns-clause-any_moment g c d was rests without sent =
     let geo = c.args.geometry.now in
