@@ -1,10 +1,10 @@
 -- Of the segment area a volume as which a history stands reaches as many units as the history has leaves, where those lie at the lowest ones.
 use Rattle.std.proofs.Common.{◌≡◌, ◌↔◌, ◌≤◌, ◌<◌, ◌+◌, ◌*◌, suc-mul, inl, inr, ℕ, zero, suc, Bool, true, false, nat_eq, List, ◌∷◌, length, refl, sym, subst, ap, ◌∙◌, arith}
-use Rattle.std.specs.Prelude.{Contains, if◌then◌else◌, list_any}
+use Rattle.std.specs.Prelude.{Contains, if◌then◌else◌}
 use Rattle.std.specs.Cmp.{nat_eq_equiv}
-use Rattle.std.specs.List.{AllByRecursion}
+use Rattle.std.specs.List.{AllByRecursion, list_any}
 use Rattle.std.proofs.Math.Nat.{mul-le-mul_right}
-use Rattle.std.proofs.lemmas.Bool.{cases_Bool, cases_le, cases_lt, eqb-true}
+use Rattle.std.proofs.lemmas.Bool.{cases_Bool, cases_lt, eqb-true}
 use Rattle.std.proofs.lemmas.Map.Views.{Contains-from_any, list_any-from_Contains}
 use Rattle.ex_base.specs.declared.geometry.Geometry.{Geometry}
 use Rattle.ex_base.specs.declared.names.Area.TheVariants.{Segment}
@@ -36,7 +36,7 @@ use Rattle.history_ends.proofs.StandingPieces.{piece_there}
 all_used : (used : ℕ → Bool) (at : ℕ → ℕ) (n : ℕ) → ((j : ℕ) → j < n → used (at j) ≡ true) → used_below used at n ≡ n
 all_used used at zero all = refl
 all_used used at (suc n) all =
-    let one : (if used (at n) then 1 else 0) ≡ 1 = ap (λ (b : Bool). if b then 1 else 0) (all n (omega arith)) in
+    let one : ◌≡◌ {A = ℕ} (if used (at n) then 1 else 0) 1 = ap {B = ℕ} (λ (b : Bool). if b then 1 else 0) (all n (omega arith)) in
     omega (arith, one, all_used used at n (λ j lt. all j (omega (arith, lt))))
 
 none_from : (used : ℕ → Bool) (at : ℕ → ℕ) (few n : ℕ) → few ≤ n → ((j : ℕ) → few ≤ j → j < n → used (at j) ≡ false) → used_below used at n ≡ used_below used at few
@@ -44,7 +44,7 @@ none_from used at few zero le none = ap (used_below used at) (let same : 0 ≡ f
 none_from used at few (suc n) le none = elim (cases_lt n few) [
   | inl last ↦ ap (used_below used at) (let same : suc n ≡ few = omega (arith, le, last) in same)
   | inr before ↦
-      let free : (if used (at n) then 1 else 0) ≡ 0 = ap (λ (b : Bool). if b then 1 else 0) (none n before (omega arith)) in
+      let free : ◌≡◌ {A = ℕ} (if used (at n) then 1 else 0) 0 = ap {B = ℕ} (λ (b : Bool). if b then 1 else 0) (none n before (omega arith)) in
       omega (arith, free, none_from used at few n before (λ j from to. none j from (omega (arith, to))))
 ]
 
