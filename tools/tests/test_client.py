@@ -7,6 +7,7 @@ import random
 import threading
 import time
 import unittest
+from contextlib import contextmanager
 from pathlib import Path
 from typing import Callable, Iterator
 
@@ -143,14 +144,21 @@ class ClientTest(InFolder):
             self.assertEqual(read, table)
         return volume
 
-    def test_pieces(self) -> None:
-        """bytes of more than a line go in by pieces and come back"""
-        data = random.Random(1).randbytes(3 * PIECE + 1000)
+    @contextmanager
+    def new_object(self) -> Iterator[tuple[Store, str]]:
+        """A store on a new volume with room for several pieces, and an empty object there."""
         self.format(page_size=4096, pages=200, segs=2000, fan=169)
         with Store("v") as store:
             with store.transaction():
                 store.file("a")
                 oid = store.create("a")
+            yield store, oid
+
+    def test_pieces(self) -> None:
+        """bytes of more than a line go in by pieces and come back"""
+        data = random.Random(1).randbytes(3 * PIECE + 1000)
+        with self.new_object() as (store, oid):
+            with store.transaction():
                 store.append(oid, data)
                 store.insert(oid, 5, data[:PIECE + 7])
                 store.replace(oid, 9, data[:PIECE + 1])
@@ -164,11 +172,8 @@ class ClientTest(InFolder):
     def test_each(self) -> None:
         """pieces that are made while the program is at others come in order, and go out so"""
         data = random.Random(2).randbytes(2 * PIECE + 1000)
-        self.format(page_size=4096, pages=200, segs=2000, fan=169)
-        with Store("v") as store:
+        with self.new_object() as (store, oid):
             with store.transaction():
-                store.file("a")
-                oid = store.create("a")
                 store.append_each(oid, [])
                 store.append_each(oid, [b"ab", b"", data, b"c"])
             got: list[bytes] = []
