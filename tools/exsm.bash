@@ -30,7 +30,7 @@ _exsm() {
         case "${COMP_WORDS[1]}" in
         format) _exsm_offer "--page-size --pages --segs --seg-len --fan" ;;
         run | clients) _exsm_offer "--max-bytes" ;;
-        gen) _exsm_offer "--seed --count" ;;
+        gen) _exsm_offer "--seed --count --anyway" ;;
         esac
         ;;
     esac

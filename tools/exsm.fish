@@ -31,6 +31,7 @@ complete -c exsm -n '__exsm_behind 2 format' -x -l fan
 complete -c exsm -n '__exsm_behind 2 run clients' -x -l max-bytes
 complete -c exsm -n '__exsm_behind 2 gen' -x -l seed
 complete -c exsm -n '__exsm_behind 2 gen' -x -l count
+complete -c exsm -n '__exsm_behind 2 gen' -l anyway -d 'also where the volume holds data'
 
 complete -c exsm_new.py -n '__exsm_at 2' -x -a '80M 1G 16G'
 complete -c exsm_new.py -x -l for -a 'mixed large small'

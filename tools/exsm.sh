@@ -25,9 +25,4 @@ if is_unknown "$@"; then
     run_unknown "$parts/program" "$@"
     exit
 fi
-if [ "${1-}" = gen ]; then
-    agrees_to_gen "$parts/program" "$@" || exit
-fi
-# A write past the limit of a file's size (ulimit -f) is refused, which the run tells, where its signal is held off.
-trap '' XFSZ
-exec "$parts/program" "$@"
+run_program "$parts/program" "$@"

@@ -26,7 +26,7 @@ _exsm_program() {
     *:format:--page-size) compadd -- 512 1024 2048 4096 8192 ;;
     *:format:*) compadd -- --page-size --pages --segs --seg-len --fan ;;
     *:run:* | *:clients:*) compadd -- --max-bytes ;;
-    *:gen:*) compadd -- --seed --count ;;
+    *:gen:*) compadd -- --seed --count --anyway ;;
     esac
 }
 

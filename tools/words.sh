@@ -1,5 +1,5 @@
 # What ./exsm and the installed exsm do with words before the program has them: help, a hint at a word that is no command, and
-# a question before `gen` changes a volume that holds something. Both source it. What runs the program runs it by `exec`.
+# no `gen` on a volume that holds something. Both source it.
 
 # Tells all words, or those of one command: tell_help USAGE_FILE [COMMAND].
 tell_help() {
@@ -120,34 +120,57 @@ run_unknown() {
     return $status
 }
 
-# The word that names the volume: volume_in WORDS, without the command.
-volume_in() {
+# Sets `volume` to the word that names it, or to nothing: find_volume WORDS, without the command.
+find_volume() {
+    volume=""
     while [ $# -gt 0 ]; do
         case "$1" in
         --*=*) ;;
         --*) [ $# -lt 2 ] || shift ;;
-        *) printf %s "$1" && return ;;
+        *) volume="$1" && return ;;
         esac
         shift
     done
 }
 
-# Asks a person before `gen` changes a volume that holds files: agrees_to_gen PROGRAM WORDS. Where input or messages are no
-# terminal nobody is asked, so scripts go on as they did.
-agrees_to_gen() {
-    { [ -t 0 ] && [ -t 2 ]; } || return 0
+# What a volume holds, as `check` counts it, or nothing where it holds no file or can't be opened: held_in PROGRAM VOLUME.
+held_in() {
+    counted="$("$1" check "$2" 2>/dev/null </dev/null)" || return 0
+    case "$counted" in
+    *" files 0 "*) ;;
+    *) printf %s "${counted#ok check }" ;;
+    esac
+}
+
+# Ends with usage where a volume holds something, to which `gen` would add: spare_held PROGRAM WORDS, without the command.
+spare_held() {
     program="$1"
-    shift 2
-    volume="$(volume_in "$@")"
-    holds="$("$program" check "$volume" 2>/dev/null </dev/null)" || return 0
-    case "$holds" in
-    *" files 0 "* | "") return 0 ;;
-    esac
-    printf 'exsm: %s holds data (%s), and gen changes it. Go on? [y/N] ' "$volume" "${holds#ok check }" >&2
-    read -r answer || answer=
-    case "$answer" in
-    [yY] | [yY][eE][sS]) return 0 ;;
-    esac
-    echo "exsm: nothing was done" >&2
-    return 1
+    shift
+    find_volume "$@"
+    held="$(held_in "$program" "$volume")"
+    [ -n "$held" ] || return 0
+    printf '%s\n' \
+        "exsm: $(printf %s "$volume" | LC_ALL=C tr -cd '[:print:]') holds data ($held), and gen adds generated objects: nothing was done" \
+        "exsm: to add them all the same, say --anyway" "exsm: status 2 usage" >&2
+    exit 2
+}
+
+# Runs the program on words, in place of this process: run_program PROGRAM WORDS. Behind `gen` the word --anyway is none of the
+# program's: it says that the volume may hold something.
+run_program() {
+    program="$1"
+    shift
+    if [ "${1-}" = gen ]; then
+        anyway=""
+        for word; do
+            shift
+            if [ "$word" = --anyway ]; then anyway=1; else set -- "$@" "$word"; fi
+        done
+        shift
+        [ -n "$anyway" ] || spare_held "$program" "$@"
+        set -- gen "$@"
+    fi
+    # A write past the limit of a file's size (ulimit -f) is refused, which the run tells, where its signal is held off.
+    trap '' XFSZ
+    exec "$program" "$@"
 }

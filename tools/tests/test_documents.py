@@ -236,7 +236,7 @@ COMPLETIONS = [
     ("exsm|run|", ["other", "v"]), ("exsm|check|", ["other", "v"]),
     ("exsm|format|v|", SIZES), ("exsm|format|v|--page-size|8", ["8192"]),
     ("exsm|format|v|--page-size|512|", SIZES), ("exsm|run|v|", ["--max-bytes"]),
-    ("exsm|gen|v|", ["--count", "--seed"]),
+    ("exsm|gen|v|", ["--anyway", "--count", "--seed"]),
     ("exsm_files.py|v|", ["get", "ls", "mv", "put", "rm", "verify"]),
     ("exsm_new.py|v|", ["--for", "16G", "1G", "80M"]),
     ("exsm_new.py|v|80M|--for|", ["large", "mixed", "small"]),

@@ -114,13 +114,40 @@ class WordsTest(OfCheckout):
         self.assertEqual((ran.status, ran.lines, ran.errors), (0, [f"{told}, {KIT}"], []))
 
     def test_usage(self) -> None:
-        """the launcher tells the words that the program tells, to which `help` is a wrong one"""
+        """the launcher tells the words that the program tells, to which `help` is a wrong one, and
+        --anyway"""
+        usage = (TOP / "tools" / "usage.txt").read_text(encoding="utf-8").splitlines()
+        usage.remove("           with --anyway also where VOLUME holds data")
         for words in (["help"], ["--help"]):
             ran = self.exsm(*words)
-            self.assertEqual((ran.status, ran.errors[-1]), (2, "exsm: status 2 usage"))
-            self.assertEqual(ran.errors[:-1],
-                             (TOP / "tools" / "usage.txt").read_text(encoding="utf-8").splitlines())
+            self.assertEqual((ran.status, ran.errors), (2, [*usage, "exsm: status 2 usage"]))
         self.assertEqual(self.exsm("--version").status, 2)
+
+    def test_gen(self) -> None:
+        """the launcher runs `gen` on a fresh volume, and on one with files with --anyway alone"""
+        self.behave("builds", os.environ["EXSM"])
+        self.format()
+        gen = ("gen", "v", "--seed", "1", "--count", "20")
+        self.assertEqual(self.launch(*gen).status, 0)
+        ran = self.launch(*gen)
+        self.assertEqual((ran.status, ran.out, ran.errors[-2:]), (2, b"", [
+            "exsm: to add them all the same, say --anyway", "exsm: status 2 usage"]))
+        ran = self.launch("gen", "--anyway", *gen[1:])
+        self.assertEqual((ran.status, ran.out[:7], ran.errors), (0, b"ok gen ", []))
+
+    def test_unknown_words(self) -> None:
+        """of a word that is no command it tells what it may mean, at once, before any build too"""
+        said = ["exsm: did you mean `exsm format`?", "exsm: `exsm help` tells all words",
+                "exsm: status 2 usage"]
+        ran = self.launch("Format", "v")
+        self.assertEqual((ran.status, ran.errors, self.calls()),
+                         (2, ["exsm: 'Format' is no command", *said], []))
+        self.behave("builds", os.environ["EXSM"])
+        self.launch("build")
+        self.calls()
+        ran = self.launch("Format", "v")
+        cause = self.exsm("Format", "v").errors[0]
+        self.assertEqual((ran.status, ran.errors, self.calls()), (2, [cause, *said], []))
 
     def test_formats(self) -> None:
         """the format that --version tells stands in a volume that the program makes"""
@@ -432,6 +459,13 @@ class TryTest(OfCheckout):
             self.assertEqual(ran.out, b"check --max-bytes 1 volume|of mine|")
             self.assertTrue(ran.errors[-1].startswith(
                 f"{GONE}it ran on a copy of {name}, where it was called volume,"), ran.errors)
+
+    def test_anyway(self) -> None:
+        """the word by which `gen` adds to a volume in use is none of the program's here either"""
+        for words in ("gen v --anyway --seed 1", "gen --anyway v --seed=1"):
+            ran = self.tried(*words.split())
+            called = words.replace(" --anyway", "")
+            self.assertTrue(ran.out.startswith(called.encode() + b"|"), ran.out)
 
     def test_options(self) -> None:
         """options stand before or after the volume, in two words or in one"""

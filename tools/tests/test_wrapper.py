@@ -1,4 +1,4 @@
-"""The installed program: help, a hint at a word that is no command, a question before `gen`."""
+"""The installed program: help, a hint at a word that is no command, no `gen` on a volume in use."""
 from __future__ import annotations
 
 import os
@@ -7,7 +7,6 @@ import shutil
 import subprocess
 import sys
 from pathlib import Path
-from typing import Optional
 
 from tests.support import SECONDS, TOOLS, TOP, InFolder, Ran
 from tests.test_edge import WORDS
@@ -24,6 +23,13 @@ UNKNOWN = {
 """Words whose first is no command, and what they are taken to mean."""
 
 COMMANDS = ("format", "run", "check", "gen", "clients", "dump")
+MORE = "           with --anyway also where VOLUME holds data"
+"""What the help of `gen` has that the program's usage hasn't."""
+
+HELD = r"^exsm: v holds data \(last \d+ files 1 .*\), and gen adds generated objects: nothing was"
+ANYWAY = ["exsm: to add them all the same, say --anyway", USAGE]
+"""What is said of a volume to which `gen` would add."""
+
 KNOWN = [words for words, _, _ in WORDS if words.split(" ")[0] in COMMANDS]
 """Wrong words behind a command."""
 
@@ -62,7 +68,7 @@ class WrapperTest(InFolder):
             ran = self.run_words(self.installed, *words)
             self.assertEqual((ran.status, ran.lines, ran.errors), (0, usage, []))
         for command in COMMANDS:
-            wanted = [line for line in self.exsm(command).errors[1:-1]]
+            wanted = self.exsm(command).errors[1:-1] + ([MORE] if command == "gen" else [])
             for words in (["help", command], [command, "--help"]):
                 ran = self.run_words(self.installed, *words)
                 self.assertEqual((ran.status, ran.lines, ran.errors), (0, wanted, []))
@@ -79,15 +85,51 @@ class WrapperTest(InFolder):
             place = self.folder / "prefix" / "lib" / "exsm" / "program"
             self.assertTrue(os.path.samefile(f"/proc/{run.pid}/exe", place))
 
-    def gen(self, answer: Optional[str]) -> Ran:
-        """Makes lines at a terminal, where a question is answered so, or with no terminal."""
-        words = [self.installed, "gen", "v", "--seed", "1", "--count", "20"]
-        if answer is None:
-            return self.run_words(*words)
+    def test_gen(self) -> None:
+        """`gen` is refused on a volume that holds files, in a terminal too, unless --anyway is
+        there"""
+        self.format(pages=600, segs=600)
+        gen = (self.installed, "gen", "v", "--seed", "1", "--count", "20")
+        ran = self.run_words(*gen)
+        self.assertEqual((ran.status, ran.errors, ran.out[:7]), (0, [], b"ok gen "))
+        self.exsm("check", "v")                    # an opening writes home what the log has
+        before = Path("v").read_bytes()
+        for words in (gen, (self.installed, "gen", "--count=20", "--seed", "1", "v")):
+            ran = self.run_words(*words)
+            self.assertEqual((ran.status, ran.out, ran.errors[1:]), (2, b"", ANYWAY))
+            self.assertRegex(ran.errors[0], HELD)
+            self.assertEqual(Path("v").read_bytes(), before)
+        ran = self.at_terminal(*gen)
+        self.assertEqual((ran.status, ran.errors[1:], Path("v").read_bytes()), (2, ANYWAY, before))
+        for place in range(2, len(gen) + 1):
+            ran = self.run_words(*gen[:place], "--anyway", *gen[place:])
+            self.assertEqual((ran.status, ran.errors, ran.out[:7]), (0, [], b"ok gen "))
+        self.assertEqual(self.run_words(*gen).status, 2)
+
+    def test_gen_on_nothing(self) -> None:
+        """behind `gen` each volume without files goes to the program, with its words but for
+        --anyway"""
+        self.format("w", pages=600, segs=600)
+        gone = b"begin\nfile a\ncommit\nbegin\nunfile a\ncommit\n"
+        self.assertEqual(self.exsm("run", "w", given=gone).lines[-1], "ok commit 2")
+        Path("no").write_bytes(b"no volume" * 1000)
+        for words in ("w --seed 1", "--anyway", "no --seed 1 --count 2", "gone --seed 1 --count 2",
+                      "w --seed 1 --count 20", "w x --anyway", "--seed --anyway --count 1 w"):
+            with self.subTest(words):
+                split = words.split(" ")
+                shutil.copy("w", "kept")
+                ran = self.run_words(self.installed, "gen", *split)
+                shutil.copy("kept", "w")
+                by_itself = self.exsm("gen", *(it for it in split if it != "--anyway"))
+                shutil.copy("kept", "w")
+                self.assertEqual((ran.status, ran.out, ran.errors),
+                                 (by_itself.status, by_itself.out, by_itself.errors))
+
+    def at_terminal(self, *words: str) -> Ran:
+        """Runs a program whose input and messages are a terminal, at which nothing is typed."""
         side, other = pty.openpty()
         with subprocess.Popen(words, stdin=other, stderr=other, stdout=subprocess.PIPE) as run:
             os.close(other)
-            os.write(side, answer.encode())
             out = run.communicate(timeout=SECONDS)[0]
         said = b""
         try:
@@ -97,26 +139,6 @@ class WrapperTest(InFolder):
             pass
         os.close(side)
         return Ran(run.returncode, out, said.replace(b"\r", b""))
-
-    def test_gen(self) -> None:
-        """in a terminal `gen` asks before it changes a volume that holds files; a script goes on"""
-        self.format(pages=600, segs=600)
-        first = self.gen("")
-        self.assertEqual(first.status, 0, first.errors)
-        self.assertNotIn("Go on?", " ".join(first.errors))
-        self.exsm("check", "v")                    # an opening writes home what the log has
-        before = Path("v").read_bytes()
-        for answer in ("n\n", "\n", "\x04", "yesterday\n"):
-            ran = self.gen(answer)
-            self.assertEqual((ran.status, ran.out), (1, b""), answer)
-            said = "\n".join(ran.errors)
-            self.assertIn("v holds data (last 1 files 1 objects", said)
-            self.assertTrue(said.endswith("exsm: nothing was done"), said)
-            self.assertEqual(Path("v").read_bytes(), before)
-        ran = self.gen("y\n")
-        self.assertEqual((ran.status, ran.out[:7]), (0, b"ok gen "), ran.errors)
-        ran = self.gen(None)
-        self.assertEqual((ran.status, ran.errors), (0, []))
 
     def test_removal(self) -> None:
         """what was installed is removed, and nothing else"""
