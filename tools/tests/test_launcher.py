@@ -114,8 +114,7 @@ class WordsTest(OfCheckout):
         self.assertEqual((ran.status, ran.lines, ran.errors), (0, [f"{told}, {KIT}"], []))
 
     def test_usage(self) -> None:
-        """the launcher tells the words that the program tells, to which `help` is a wrong one, and
-        --anyway"""
+        """the launcher tells the words of the program, to which `help` is wrong, and --anyway"""
         usage = (TOP / "tools" / "usage.txt").read_text(encoding="utf-8").splitlines()
         usage.remove("           with --anyway also where VOLUME holds data")
         for words in (["help"], ["--help"]):

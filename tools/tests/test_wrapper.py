@@ -86,8 +86,7 @@ class WrapperTest(InFolder):
             self.assertTrue(os.path.samefile(f"/proc/{run.pid}/exe", place))
 
     def test_gen(self) -> None:
-        """`gen` is refused on a volume that holds files, in a terminal too, unless --anyway is
-        there"""
+        """`gen` spares a volume that holds files, in a terminal too, unless --anyway is there"""
         self.format(pages=600, segs=600)
         gen = (self.installed, "gen", "v", "--seed", "1", "--count", "20")
         ran = self.run_words(*gen)
@@ -107,8 +106,7 @@ class WrapperTest(InFolder):
         self.assertEqual(self.run_words(*gen).status, 2)
 
     def test_gen_on_nothing(self) -> None:
-        """behind `gen` each volume without files goes to the program, with its words but for
-        --anyway"""
+        """behind `gen` a volume without files goes to the program, and no --anyway does"""
         self.format("w", pages=600, segs=600)
         gone = b"begin\nfile a\ncommit\nbegin\nunfile a\ncommit\n"
         self.assertEqual(self.exsm("run", "w", given=gone).lines[-1], "ok commit 2")
