@@ -149,8 +149,9 @@ spare_held() {
     find_volume "$@"
     held="$(held_in "$program" "$volume")"
     [ -n "$held" ] || return 0
-    printf '%s\n' \
-        "exsm: $(printf %s "$volume" | LC_ALL=C tr -cd '[:print:]') holds data ($held), and gen adds generated objects: nothing was done" \
+    shown="$(printf %s "$volume" | LC_ALL=C tr -cd '[:print:]')"
+    [ "$shown" = "$volume" ] || shown="the volume"
+    printf '%s\n' "exsm: $shown holds data ($held), and gen adds generated objects: nothing was done" \
         "exsm: to add them all the same, say --anyway" "exsm: status 2 usage" >&2
     exit 2
 }

@@ -104,6 +104,13 @@ class WrapperTest(InFolder):
             ran = self.run_words(*gen[:place], "--anyway", *gen[place:])
             self.assertEqual((ran.status, ran.errors, ran.out[:7]), (0, [], b"ok gen "))
         self.assertEqual(self.run_words(*gen).status, 2)
+        for name in ("ümlaut", "two\nlines\n", "with space"):
+            os.rename("v", name)
+            ran = self.run_words(self.installed, "gen", "--seed", "1", name, "--count", "20")
+            self.assertEqual((ran.status, ran.errors[1:]), (2, ANYWAY))
+            shown = name if name == "with space" else "the volume"
+            self.assertTrue(ran.errors[0].startswith(f"exsm: {shown} holds data (last "))
+            os.rename(name, "v")
 
     def test_gen_on_nothing(self) -> None:
         """behind `gen` a volume without files goes to the program, and no --anyway does"""
