@@ -73,7 +73,7 @@ class ProgramMissing(Exception):
 CAUSES: list[tuple[int, re.Pattern[str], type[Ended]]] = [
     (DISK_FAULT, re.compile(r": another run has it open$", re.M), Locked),
     (DISK_FAULT, re.compile(r" \(os error 2\)( \([^()]*\))?$", re.M), Missing),
-    (DISK_FAULT, re.compile(r" \(os error (1|13|30)\)$", re.M), Denied),
+    (DISK_FAULT, re.compile(r" \(os error (1|13|30)\)( \([^()]*\))?$", re.M), Denied),
     (BAD_VOLUME, re.compile(r"^exsm: status 6 bad volume \w+$", re.M), NoVolume),
 ]
 """How a status and what the program said tell a cause. The file's name stands before both."""

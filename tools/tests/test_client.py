@@ -13,6 +13,7 @@ from typing import Callable, Iterator
 
 from exsm.client import (LINE_MOST, PIECE, Broken, Denied, Ended, Locked, Missing, NoVolume,
                          Refused, Space, Store, is_answered)
+from exsm.transport import ended_by
 from exsm.volume import Volume
 from tests.support import InFolder
 
@@ -294,6 +295,12 @@ class ClientTest(InFolder):
         """a volume that may not be written is told as such"""
         os.chmod(self.format(), 0o444)
         self.assertRaises(Denied, Store, "v")
+
+    def test_told_denial(self) -> None:
+        """what the program says of a volume that may not be written is taken as such"""
+        for more in ("", " (an opening also writes)"):
+            said = f"exsm: v: Permission denied (os error 13){more}\nexsm: status 5 disk fault\n"
+            self.assertIs(type(ended_by(5, said)), Denied)
 
     def test_ended(self) -> None:
         """where the program is killed, its signal is told, and told again"""
