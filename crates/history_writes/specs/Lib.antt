@@ -3,3 +3,7 @@ pub mod Pieces
 pub mod Files
 pub mod Records
 pub mod Laws
+pub mod Laid
+pub mod Contents
+pub mod Linked
+pub mod Indexed

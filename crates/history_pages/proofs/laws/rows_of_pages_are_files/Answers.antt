@@ -1,5 +1,0 @@
-use Rattle.history_pages.proofs.Holding.{rows_are_files}
-use Rattle.history_pages.proofs.laws.rows_of_pages_are_files.Goals as goal
-
-pub returns : goal.returns
-returns c = rows_are_files
