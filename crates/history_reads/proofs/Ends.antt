@@ -231,6 +231,9 @@ came_by g f k (item ∷ items) came leads =
 came_begun : (g : Geometry) (head : StreamHead) → Came g (begun head)
 came_begun g head = record { leaves = tt; few_leaves = omega arith; nodes = tt; few_nodes = omega arith; files = tt; hand = tt; few_files = omega arith; reached = reached_begun head; sound = sound_begun g head }
 
+pub came_of : (g : Geometry) (joined : List ℕ) (f : Front) (held : List ℕ) → IsFrontOf g joined f held → Came g f
+came_of g joined f held one = (came_by g (begun f.head) f one.items (came_begun g f.head) one.leads).0
+
 -- ---- the end
 
 abbrev Sized : Type 0
@@ -239,7 +242,7 @@ Sized = Option (ℕ × (ℕ × ℕ))
 abbrev misfit_by : Geometry → StreamHead → Bool → Bool → Bool → Sized
 misfit_by g head a b c = if not a then Some (1, (head.page_size, g.page_size)) else if not b then Some (2, (head.seg_len, g.seg_len)) else if not c then Some (3, (head.fan, g.fan)) else None
 
-sizes_same : (g : Geometry) (head : StreamHead) → misfit_of g head ≡ None → (head.page_size ≡ g.page_size) × (head.seg_len ≡ g.seg_len) × (head.fan ≡ g.fan)
+pub sizes_same : (g : Geometry) (head : StreamHead) → misfit_of g head ≡ None → (head.page_size ≡ g.page_size) × (head.seg_len ≡ g.seg_len) × (head.fan ≡ g.fan)
 sizes_same g head e = by_tests (head.page_size == g.page_size) (head.seg_len == g.seg_len) (head.fan == g.fan) refl refl refl e
   where
     by_tests : (a b c : Bool) → (head.page_size == g.page_size) ≡ a → (head.seg_len == g.seg_len) ≡ b → (head.fan == g.fan) ≡ c → misfit_by g head a b c ≡ None → (head.page_size ≡ g.page_size) × (head.seg_len ≡ g.seg_len) × (head.fan ≡ g.fan)

@@ -1,4 +1,0 @@
-pub mod EmptyVolumes
-pub mod EmptyCatalogs
-pub mod NewCatalogs
-pub mod CommittedLoads

@@ -1,5 +1,0 @@
-use Rattle.history_ends.proofs.StandingPieces.{of_table}
-use Rattle.history_ends.proofs.a_history_that_stands_is_of_its_table.Goals as goal
-
-pub returns : goal.returns
-returns c g records units v h leaf node parts rules items lengths pages on = of_table g records units v h leaf node parts items lengths on rules pages

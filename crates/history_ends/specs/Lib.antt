@@ -1,4 +1,0 @@
-pub mod Pieces
-pub mod Placed
-pub mod Written
-pub mod Laws

@@ -1,0 +1,12 @@
+pub mod Loads
+pub mod Pieces
+pub mod Placed
+pub mod Written
+pub mod Laws
+pub mod Reached
+pub mod Staying
+pub mod Whole
+pub mod Faults
+pub mod AtHand
+pub mod Loading
+pub mod Streams
