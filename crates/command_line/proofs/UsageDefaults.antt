@@ -6,7 +6,7 @@ use Rattle.std.specs.Str.Parse.{digits_value}
 use Rattle.std.proofs.lemmas.Fmt.{decimal_is_IsNumeral}
 use Rattle.command_words.specs.Items.{number_given}
 use Rattle.command_words.specs.declared.commands.CommandWord.TheVariants as word
-use Rattle.command_words.specs.declared.wish.Wish.TheVariants.{Format, Run, Check, Gen, Clients, Dump}
+use Rattle.command_words.specs.declared.wish.Wish.TheVariants.{Format, Run, Check, Gen, Clients, Dump, Load}
 use Rattle.command_line.specs.UsageText.{default}
 use Rattle.command_line.specs.UsageLaws.{IsDefault, TellsDefaults}
 
@@ -27,6 +27,7 @@ page_size items Check is none gives = absurd (cc)
 page_size items (Gen seed count) is none gives = absurd (cc)
 page_size items (Clients most) is none gives = absurd (cc)
 page_size items Dump is none gives = absurd (cc)
+page_size items Load is none gives = absurd (cc)
 
 pages : IsDefault word.Format (default (codes "pages") 4096)
 pages items (Format g) is none gives = record {
@@ -41,6 +42,7 @@ pages items Check is none gives = absurd (cc)
 pages items (Gen seed count) is none gives = absurd (cc)
 pages items (Clients most) is none gives = absurd (cc)
 pages items Dump is none gives = absurd (cc)
+pages items Load is none gives = absurd (cc)
 
 segs : IsDefault word.Format (default (codes "segs") 16384)
 segs items (Format g) is none gives = record {
@@ -55,6 +57,7 @@ segs items Check is none gives = absurd (cc)
 segs items (Gen seed count) is none gives = absurd (cc)
 segs items (Clients most) is none gives = absurd (cc)
 segs items Dump is none gives = absurd (cc)
+segs items Load is none gives = absurd (cc)
 
 seg_len : IsDefault word.Format (default (codes "seg-len") 1)
 seg_len items (Format g) is none gives = record {
@@ -69,6 +72,7 @@ seg_len items Check is none gives = absurd (cc)
 seg_len items (Gen seed count) is none gives = absurd (cc)
 seg_len items (Clients most) is none gives = absurd (cc)
 seg_len items Dump is none gives = absurd (cc)
+seg_len items Load is none gives = absurd (cc)
 
 max_bytes : IsDefault word.Run (default (codes "max-bytes") 1099511627776)
 max_bytes items (Run most) is none gives = same most 1099511627776 (number_given (codes "max-bytes") items) (omega arith) gives none
@@ -77,6 +81,7 @@ max_bytes items Check is none gives = absurd (cc)
 max_bytes items (Gen seed count) is none gives = absurd (cc)
 max_bytes items (Clients most) is none gives = absurd (cc)
 max_bytes items Dump is none gives = absurd (cc)
+max_bytes items Load is none gives = absurd (cc)
 
 max_bytes_of_clients : IsDefault word.Clients (default (codes "max-bytes") 1099511627776)
 max_bytes_of_clients items (Clients most) is none gives = same most 1099511627776 (number_given (codes "max-bytes") items) (omega arith) gives none
@@ -85,6 +90,7 @@ max_bytes_of_clients items (Run most) is none gives = absurd (cc)
 max_bytes_of_clients items Check is none gives = absurd (cc)
 max_bytes_of_clients items (Gen seed count) is none gives = absurd (cc)
 max_bytes_of_clients items Dump is none gives = absurd (cc)
+max_bytes_of_clients items Load is none gives = absurd (cc)
 
 pub tells_defaults : TellsDefaults
 tells_defaults word.Format = (page_size, (pages, (segs, (seg_len, tt))))
@@ -93,3 +99,4 @@ tells_defaults word.Check = tt
 tells_defaults word.Gen = tt
 tells_defaults word.Clients = (max_bytes_of_clients, tt)
 tells_defaults word.Dump = tt
+tells_defaults word.Load = tt

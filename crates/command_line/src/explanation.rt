@@ -177,6 +177,7 @@ impl Explanation<'_> {
         match self.command() {
             Some(CommandWord::Format) => "; the volume is made",
             Some(CommandWord::Dump) => "; what was sent is no whole dump",
+            Some(CommandWord::Load) => "; the dump is loaded",
             _ => "; commits whose reply was sent stay",
         }
     }

@@ -9,6 +9,21 @@ use std::fmt;
 #[derive(Clone, Copy, Debug)]
 pub struct Usage(pub Option<CommandWord>);
 
+/// How a command is called, on a line of its own below another.
+#[derive(Clone, Copy)]
+struct Below(CommandWord);
+
+impl fmt::Display for Below {
+    ghost use Rattle.command_line.specs.UsageText.{next_text};
+
+    ghost output = { λ below. Some (next_text below.0) };
+
+    fn fmt<W: fmt::Write>(&self, f: &mut fmt::Formatter<W>) -> fmt::Result {
+        let grammar = grammar_of(self.0);
+        write!(f, "\n       exsm {grammar}")
+    }
+}
+
 impl fmt::Display for Usage {
     ghost output = { λ usage. Some (usage_text usage.0) };
 
@@ -20,14 +35,15 @@ impl fmt::Display for Usage {
             }
             None => {
                 let format = grammar_of(CommandWord::Format);
-                let run = grammar_of(CommandWord::Run);
-                let check = grammar_of(CommandWord::Check);
-                let generate = grammar_of(CommandWord::Gen);
-                let clients = grammar_of(CommandWord::Clients);
-                let dump = grammar_of(CommandWord::Dump);
+                let run = Below(CommandWord::Run);
+                let check = Below(CommandWord::Check);
+                let generate = Below(CommandWord::Gen);
+                let clients = Below(CommandWord::Clients);
+                let dump = Below(CommandWord::Dump);
+                let load = Below(CommandWord::Load);
                 write!(
                     f,
-                    "usage: exsm {format}\n       exsm {run}\n       exsm {check}\n       exsm {generate}\n       exsm {clients}\n       exsm {dump}"
+                    "usage: exsm {format}{run}{check}{generate}{clients}{dump}{load}"
                 )
             }
         }
@@ -50,6 +66,8 @@ const CLIENTS: &str = "clients VOLUME [--max-bytes N] < SCHEDULE
 
 const DUMP: &str = "dump VOLUME > STREAM";
 
+const LOAD: &str = "load VOLUME < STREAM";
+
 /// How a command is called, behind the program's name.
 fn grammar_of(command: CommandWord) -> &'static str
     ensures { result.now ≡ grammar_text command }
@@ -61,5 +79,6 @@ fn grammar_of(command: CommandWord) -> &'static str
         CommandWord::Gen => GEN,
         CommandWord::Clients => CLIENTS,
         CommandWord::Dump => DUMP,
+        CommandWord::Load => LOAD,
     }
 }

@@ -17,6 +17,8 @@ pub enum CommandWord {
     Clients,
     /// Opens a volume and writes its whole history as a stream.
     Dump,
+    /// Opens a volume that is empty and reads a stream of a history into it.
+    Load,
 }
 
 impl CommandWord {
@@ -32,6 +34,7 @@ impl CommandWord {
             "gen" => Some(CommandWord::Gen),
             "clients" => Some(CommandWord::Clients),
             "dump" => Some(CommandWord::Dump),
+            "load" => Some(CommandWord::Load),
             _ => None,
         }
     }
@@ -47,6 +50,7 @@ impl CommandWord {
             CommandWord::Gen => "gen",
             CommandWord::Clients => "clients",
             CommandWord::Dump => "dump",
+            CommandWord::Load => "load",
         }
     }
 
@@ -57,7 +61,7 @@ impl CommandWord {
         match self {
             CommandWord::Format => &["page-size", "pages", "segs", "seg-len", "fan"],
             CommandWord::Run | CommandWord::Clients => &["max-bytes"],
-            CommandWord::Check | CommandWord::Dump => &[],
+            CommandWord::Check | CommandWord::Dump | CommandWord::Load => &[],
             CommandWord::Gen => &["seed", "count"],
         }
     }

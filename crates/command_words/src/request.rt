@@ -76,8 +76,8 @@ fn bytes_made(wish: Wish) -> Option<u64>
 {
     match wish {
         Wish::Format(geometry) => Some(geometry.volume_bytes()),
-        Wish::Run { .. } | Wish::Check | Wish::Gen { .. } | Wish::Clients { .. } | Wish::Dump =>
-            None,
+        Wish::Run { .. } | Wish::Check | Wish::Gen { .. } | Wish::Clients { .. } => None,
+        Wish::Dump | Wish::Load => None,
     }
 }
 
@@ -113,6 +113,7 @@ fn wish_by(command: CommandWord, numbers: &[Option<u64>]) -> Option<Wish>
         CommandWord::Gen => gen_by(numbers),
         CommandWord::Clients => clients_by(numbers),
         CommandWord::Dump => Some(Wish::Dump),
+        CommandWord::Load => Some(Wish::Load),
     }
 }
 

@@ -16,4 +16,6 @@ pub enum Wish {
     Clients { most: u64 },
     /// To open a volume and to write its whole history as a stream.
     Dump,
+    /// To open a volume that is empty and to read a stream of a history into it.
+    Load,
 }

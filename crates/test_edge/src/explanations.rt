@@ -196,6 +196,12 @@ fn each_status_has_its_reason(rt: HostRuntime) -> Result<(), Fail> {
             "standard output: No space left on device (os error 28); what was sent is no whole dump",
         ),
         (
+            "load v",
+            Status::OutputFault,
+            system,
+            "standard output: No space left on device (os error 28); the dump is loaded",
+        ),
+        (
             "run v",
             Status::DiskFault,
             missing,

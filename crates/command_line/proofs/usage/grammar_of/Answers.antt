@@ -26,3 +26,7 @@ returns-in-Clients c = ap grammar_text (sym c.in-Clients.is)
 pub returns-in-Dump : goal.returns-in-Dump
 unfolding grammar_text digits
 returns-in-Dump c = ap grammar_text (sym c.in-Dump.is)
+
+pub returns-in-Load : goal.returns-in-Load
+unfolding grammar_text digits
+returns-in-Load c = ap grammar_text (sym c.in-Load.is)
