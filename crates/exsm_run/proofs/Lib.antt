@@ -6,5 +6,6 @@ mod Lines
 mod Counting
 mod Checking
 mod Dumping
+mod Loading
 mod Generating
 mod Running

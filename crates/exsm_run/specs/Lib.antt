@@ -9,4 +9,5 @@ pub mod Check
 pub mod Clients
 pub mod Generate
 pub mod Dump
+pub mod Load
 pub mod Promises

@@ -5,6 +5,7 @@ mod check;
 mod dump;
 mod format;
 mod generate;
+mod load;
 mod opening;
 mod program;
 mod script;

@@ -11,6 +11,7 @@ use crate::check::checked;
 use crate::dump::dumped;
 use crate::format::format;
 use crate::generate::generate;
+use crate::load::loaded;
 use crate::script::run_script;
 use crate::session::VolumeSession;
 use crate::status::Status;
@@ -85,5 +86,6 @@ fn fulfil<H: Host>(alloc: Global, host: &mut H, wish: Wish) -> Status
         Wish::Gen { seed, count } => generate(alloc, host, seed, count),
         Wish::Clients { most } => run_script::<VolumeSession, Schedule, H>(alloc, host, most),
         Wish::Dump => dumped(alloc, host),
+        Wish::Load => loaded(alloc, host),
     }
 }
