@@ -1,5 +1,5 @@
 //! What came of a run, as it is told.
-use ex_base::Seen;
+use ex_base::{Area, Seen};
 use exsm_run::Status;
 use scenario_values::NOTHING;
 use sha2::{Digest, Sha256};
@@ -7,7 +7,7 @@ use std::alloc::{AllocError, Global};
 use std::fmt::Write;
 
 /// What a volume is told by that keeps what was done until then.
-const KEPT: [&[u8]; 2] = [b"ok commit ", b"ok format "];
+const KEPT: [&[u8]; 3] = [b"ok commit ", b"ok format ", b"ok load "];
 
 // Adds what of a page was wanted or found.
 fn push_seen(text: &mut String, word: &str, seen: Seen) -> Result<(), AllocError> {
@@ -29,6 +29,19 @@ pub(crate) fn status_text(alloc: Global, status: Status) -> Result<String, Alloc
         }
         Status::TooSmall { have, need } => write!(text, " have {have} need {need}")?,
         Status::ScriptLong { max } => write!(text, " max {max}")?,
+        Status::Misfit {
+            field,
+            dump,
+            volume,
+        } => write!(text, " field {field} dump {dump} volume {volume}")?,
+        Status::NoRoom { area, need, free } => {
+            let units = match area {
+                Area::Page => "pages",
+                Area::Segment => "segs",
+            };
+            write!(text, " {units} need {need} free {free}")?
+        }
+        Status::NoPages { need, free } => write!(text, " need {need} free {free}")?,
         _ => {}
     }
     Ok(text)
