@@ -1,14 +1,15 @@
 #!/usr/bin/env python3
-"""Times `exsm dump` on volumes of several sizes, and what it takes of memory.
+"""Times `exsm dump` and `exsm load` on volumes of several sizes, and what they take of memory.
 
 Each PROGRAM is a built exsm. Volumes lie in a new folder below FOLDER (/dev/shm where there is none
-given), the stream goes to /dev/null. A figure is the least of RUNS runs of a whole process, the
-opening included: time of the processor for each MiB of the stream, beside that of `cat` of the
-volume's file, and the most memory that the process had. Volumes of an object of 16 MiB and up to 1
-GiB, in leaves of 4,096 bytes, tell how the time grows, which is to be at most 1.3 times for a MiB,
-and at most 1.5 ms; the largest is dumped by a process that may take 200 MiB. And one of 100,000
-objects of 100 bytes in a file, which is to take at most half a second. `--quick` goes up to 64 MiB
-and 10,000 objects.
+given). A dump that is timed goes to /dev/null, and a load is of one that was kept there, into a
+volume that was just made. A figure is the least of RUNS runs of a whole process, the opening
+included: time of the processor for each MiB of the stream, beside that of `cat` of the volume's
+file, and the most memory that the process had. Volumes of an object of 16 MiB and up to 1 GiB, in
+leaves of 4,096 bytes, tell how the time grows, which is to be at most 1.3 times for a MiB, and at
+most 1.5 ms for a dump and 3 ms for a load; the largest is dumped and loaded by processes that may
+take 200 MiB. And one of 100,000 objects of 100 bytes in a file, which is to be dumped in at most
+half a second and loaded in one. `--quick` goes up to 64 MiB and 10,000 objects.
 """
 from __future__ import annotations
 
@@ -26,7 +27,9 @@ MIB = 1 << 20
 RUNS = 3
 PIECE = 4 * MIB
 MEMORY_MOST = 200 * MIB
-GROWTH_MOST, MIB_MOST, SMALL_MOST = 1.3, 0.0015, 0.5
+GROWTH_MOST = 1.3
+DUMP_MIB_MOST, DUMP_SMALL_MOST = 0.0015, 0.5
+LOAD_MIB_MOST, LOAD_SMALL_MOST = 0.003, 1.0
 SIZES, QUICK_SIZES = (16, 128, 1024), (16, 64)
 SMALL, QUICK_SMALL = 100_000, 10_000
 SMALL_AT_ONCE = 200
@@ -72,30 +75,51 @@ def small_objects(count: int) -> Iterator[str]:
         yield "commit"
 
 
-class Dumps:
-    """Dumps of a program, of volumes in a folder."""
+class Streams:
+    """Dumps and loads of a program, of volumes in a folder."""
 
     def __init__(self, program: str, folder: str) -> None:
-        self.program, self.volume = os.path.abspath(program), os.path.join(folder, "volume")
-        self.script = os.path.join(folder, "script")
+        self.program = os.path.abspath(program)
+        self.volume, self.loaded, self.stream, self.script = (
+            os.path.join(folder, name) for name in ("volume", "loaded", "stream", "script"))
+        self.sizes: list[str] = []
+
+    def format(self, volume: str) -> None:
+        """Makes a volume of the sizes at hand."""
+        if os.path.exists(volume):
+            os.remove(volume)
+        ran([self.program, "format", volume, *self.sizes])
 
     def make(self, pages: int, segs: int, lines: Iterator[str]) -> None:
-        """Makes a volume, and runs a script on it."""
-        if os.path.exists(self.volume):
-            os.remove(self.volume)
-        ran([self.program, "format", self.volume, "--pages", str(pages), "--segs", str(segs)])
+        """Makes a volume, runs a script on it, and keeps its stream."""
+        self.sizes = ["--pages", str(pages), "--segs", str(segs)]
+        self.format(self.volume)
         with open(self.script, "w", encoding="ascii") as file:
             file.writelines(f"{line}\n" for line in lines)
         ran([self.program, "run", self.volume], self.script)
-
-    def least(self, words: list[str], memory: Optional[int] = None) -> Ran:
-        """The least of some runs."""
-        runs = [ran(words, memory=memory) for _ in range(RUNS)]
-        return Ran(min(it.processor for it in runs), min(it.memory for it in runs))
+        ran([self.program, "dump", self.volume], sink=self.stream)
 
     def dump(self, memory: Optional[int] = None) -> Ran:
         """The least of some dumps."""
-        return self.least([self.program, "dump", self.volume], memory)
+        return least([ran([self.program, "dump", self.volume], memory=memory)
+                      for _ in range(RUNS)])
+
+    def load(self, memory: Optional[int] = None) -> Ran:
+        """The least of some loads."""
+        runs: list[Ran] = []
+        for _ in range(RUNS):
+            self.format(self.loaded)
+            runs.append(ran([self.program, "load", self.loaded], self.stream, memory=memory))
+        return least(runs)
+
+    def cat(self) -> Ran:
+        """The least of some copies of the volume's file to nowhere."""
+        return least([ran(["cat", self.volume]) for _ in range(RUNS)])
+
+
+def least(runs: list[Ran]) -> Ran:
+    """The least of each figure of some runs."""
+    return Ran(min(it.processor for it in runs), min(it.memory for it in runs))
 
 
 def kept(value: float, most: float) -> str:
@@ -103,26 +127,45 @@ def kept(value: float, most: float) -> str:
     return "kept" if value <= most else "missed"
 
 
-def tell(dumps: Dumps, sizes: tuple[int, ...], small: int) -> None:
-    """Measures, and prints a table."""
-    rows: list[list[str]] = []
-    for_mib: list[float] = []
+class Table:
+    """The rows of a table on dumps or on loads."""
+
+    def __init__(self, head: str, mib_most: float, small_most: float) -> None:
+        self.head, self.mib_most, self.small_most = head, mib_most, small_most
+        self.rows: list[list[str]] = []
+        self.for_mib: list[float] = []
+
+    def add(self, mib: int, run: Ran, beside: Ran) -> None:
+        """A run over an object of so many MiB, beside `cat`."""
+        for_mib = run.processor / mib
+        self.for_mib.append(for_mib)
+        self.rows.append([f"an object of {mib:,} MiB", f"{run.processor * 1000:,.0f} ms",
+                          f"{for_mib * 1000:.2f} ms", f"{beside.processor / mib * 1000:.2f} ms",
+                          f"{run.memory:.1f} MiB", kept(for_mib, self.mib_most)])
+
+    def end(self, sizes: tuple[int, ...], small: int, run: Ran) -> str:
+        """The table, with how the time grew and a run over small objects."""
+        growth = self.for_mib[-1] / self.for_mib[0]
+        self.rows.append([f"growth from {sizes[0]} to {sizes[-1]:,} MiB", "", f"{growth:.2f}", "",
+                          "", kept(growth, GROWTH_MOST)])
+        self.rows.append([f"{small:,} objects of 100 bytes", f"{run.processor * 1000:,.0f} ms", "",
+                          "", f"{run.memory:.1f} MiB", kept(run.processor, self.small_most)])
+        return table([self.head, "Processor", "A MiB", "`cat` of the file", "Memory", ""],
+                     self.rows)
+
+
+def tell(streams: Streams, sizes: tuple[int, ...], small: int) -> None:
+    """Measures, and prints two tables."""
+    dumped = Table("Dumped", DUMP_MIB_MOST, DUMP_SMALL_MOST)
+    loaded = Table("Loaded", LOAD_MIB_MOST, LOAD_SMALL_MOST)
     for mib in sizes:
-        dumps.make(16_384, mib * 256 + 1024, one_object(mib))
-        run = dumps.dump(MEMORY_MOST if mib == sizes[-1] else None)
-        beside = dumps.least(["cat", dumps.volume])
-        for_mib.append(run.processor / mib)
-        rows.append([f"an object of {mib:,} MiB", f"{run.processor * 1000:,.0f} ms",
-                     f"{for_mib[-1] * 1000:.2f} ms", f"{beside.processor / mib * 1000:.2f} ms",
-                     f"{run.memory:.1f} MiB", kept(for_mib[-1], MIB_MOST)])
-    growth = for_mib[-1] / for_mib[0]
-    rows.append([f"growth from {sizes[0]} to {sizes[-1]:,} MiB", "", f"{growth:.2f}", "", "",
-                 kept(growth, GROWTH_MOST)])
-    dumps.make(64_000, 1024, small_objects(small))
-    run = dumps.dump()
-    rows.append([f"{small:,} objects of 100 bytes", f"{run.processor * 1000:,.0f} ms", "", "",
-                 f"{run.memory:.1f} MiB", kept(run.processor, SMALL_MOST)])
-    print(table(["Dumped", "Processor", "A MiB", "`cat` of the file", "Memory", ""], rows))
+        streams.make(16_384, mib * 256 + 1024, one_object(mib))
+        memory, beside = MEMORY_MOST if mib == sizes[-1] else None, streams.cat()
+        dumped.add(mib, streams.dump(memory), beside)
+        loaded.add(mib, streams.load(memory), beside)
+    streams.make(64_000, 1024, small_objects(small))
+    print(dumped.end(sizes, small, streams.dump()), loaded.end(sizes, small, streams.load()),
+          sep="\n\n")
 
 
 def main() -> None:
@@ -135,7 +178,7 @@ def main() -> None:
     words = parser.parse_args()
     for program in words.programs:
         with tempfile.TemporaryDirectory(dir=words.folder) as folder:
-            tell(Dumps(program, folder), QUICK_SIZES if words.quick else SIZES,
+            tell(Streams(program, folder), QUICK_SIZES if words.quick else SIZES,
                  QUICK_SMALL if words.quick else SMALL)
 
 
