@@ -140,18 +140,21 @@ class Stream(NamedTuple):
                         for low, pair in reversed(list(zip(lows, pairs))))
 
 
+def pages_filled(page_size: int, file: StreamFile) -> int:
+    """How many pages the records of a file fill, each on the newest page where it fits there."""
+    pages = room = 0
+    for version in file.versions:
+        wanted = version.record_size + SLOT.size
+        if wanted > room:
+            pages, room = pages + 1, page_size - FILE_PAGE_HEAD.size
+        room -= wanted
+    return pages
+
+
 def pages_of(page_size: int, files: list[StreamFile]) -> int:
     """How many pages of files and of their indexes a volume is to have room for."""
-    needed = 0
-    for file in files:
-        pages = room = 0
-        for version in file.versions:
-            wanted = version.record_size + SLOT.size
-            if wanted > room:
-                pages, room = pages + 1, page_size - FILE_PAGE_HEAD.size
-            room -= wanted
-        needed += pages + pages // 16 + 4
-    return needed
+    filled = [pages_filled(page_size, file) for file in files]
+    return sum(pages + pages // 16 + 4 for pages in filled)
 
 
 # Reading.

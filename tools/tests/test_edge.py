@@ -38,9 +38,11 @@ CLIENTS = [
     "           by default --max-bytes 1099511627776",
 ]
 DUMP = ["usage: exsm dump VOLUME > STREAM"]
+LOAD = ["usage: exsm load VOLUME < STREAM"]
 USAGE = [
     *FORMAT,
-    *(line.replace("usage:", "      ") for line in [*RUN, *CHECK, *GEN, *CLIENTS, *DUMP]),
+    *(line.replace("usage:", "      ")
+      for line in [*RUN, *CHECK, *GEN, *CLIENTS, *DUMP, *LOAD]),
 ]
 
 PAGE_SIZES = "512|1024|2048|4096|8192"
@@ -61,6 +63,8 @@ WORDS = [
     ("clients v --max-bytes x", "--max-bytes takes N, not 'x'", CLIENTS),
     ("dump", "dump takes a VOLUME, and no word names one", DUMP),
     ("dump v --max-bytes 6", "'--max-bytes' is neither an option of dump nor a VOLUME", DUMP),
+    ("load", "load takes a VOLUME, and no word names one", LOAD),
+    ("load v --max-bytes 6", "'--max-bytes' is neither an option of load nor a VOLUME", LOAD),
     ("format", "format takes a VOLUME, and no word names one", FORMAT),
     ("format --pages", "--pages takes 1..4000000, and no word is left", FORMAT),
     ("format v --page-size", f"--page-size takes {PAGE_SIZES}, and no word is left", FORMAT),
@@ -290,7 +294,7 @@ class Causes(InEdge):
         for words, line in (
                 *(([verb, name], f"{name}: {odd}")
                   for name in ("pipe", "/dev/null", "/dev/zero", "/dev/full")
-                  for verb in ("run", "check", "dump", "format")),
+                  for verb in ("run", "check", "dump", "load", "format")),
                 (["run", "none"], "none: No such file or directory (os error 2) "
                                   "(exsm format makes a volume)"),
                 (["run", "folder"], "folder: Is a directory (os error 21)"),

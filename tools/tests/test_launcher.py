@@ -507,9 +507,8 @@ class TryTest(OfCheckout):
         ran = self.launch("try", "run", "v", given=bytes(64 << 20))
         self.assertEqual((ran.status, ran.errors),
                          (1,
-                          [
-                              "exsm: the script has more than 67,108,863 bytes, which is the most "
-                              "that a try reads"]))
+                          ["exsm: standard input has more than 67,108,863 bytes, which is the "
+                           "most that a try reads"]))
 
     def test_failed_try(self) -> None:
         """where rt doesn't come to the program's end, its lines are shown, the status is 1"""

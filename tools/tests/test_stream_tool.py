@@ -1,4 +1,4 @@
-"""The tools that test, list, read and make streams, and back volumes up by them."""
+"""The tools that test, list, read and make streams, and those that back up and restore by them."""
 from __future__ import annotations
 
 import json
@@ -10,7 +10,9 @@ import time
 from pathlib import Path
 
 from exsm.client import Store
+from exsm.restoring import TooLarge, geometry_for
 from exsm.stream_making import stream_of
+from exsm.streams import Head
 from exsm.volume import Volume
 from tests.kills import KILLS, killed
 from tests.support import TOOLS, InFolder
@@ -242,3 +244,94 @@ class NoDumpTest(InFolder):
         self.assertEqual((ran.status, ran.errors), (0, []))
         self.assertTrue(ran.lines[0].endswith("fan 2; tested"))
         self.assertEqual(Path("b").read_bytes(), ONE)
+
+
+class RestoreTest(InFolder):
+    """Volumes made of dumps, by a program that notes how it is called, and by exsm itself."""
+
+    def program(self, text: str) -> None:
+        """Puts a program in exsm's place."""
+        Path("program").write_text(f"#!/bin/sh\n{text}\n", encoding="ascii")
+        os.chmod("program", 0o755)
+        before = os.environ["EXSM"]
+        os.environ["EXSM"] = str(self.folder / "program")
+        self.addCleanup(os.environ.__setitem__, "EXSM", before)
+
+    def test_calls(self) -> None:
+        """a volume of the sizes that a dump needs, a third of them free, is made and loaded"""
+        Path("one").write_bytes(ONE)
+        self.program('for word; do case "$word" in v.part*) ;; *) echo "$word" >>said; esac; done; '
+                     'if [ "$1" = format ]; then echo made >"$2"; else cat - >>"$2"; fi')
+        ran = self.tool("exsm_backup", "--restore", "one", "v")
+        self.assertEqual((ran.status, ran.errors), (0, []))
+        self.assertTrue(ran.lines[0].endswith("fan 2; loaded"), ran.lines)
+        nodes, pages, leaves = (int.from_bytes(ONE[at:at + 4], "big") for at in (44, 48, 40))
+        self.assertEqual(Path("said").read_text(encoding="ascii").split(), [
+            "format", "--page-size", "512", "--pages", str(-(-(1 + nodes + pages) * 3 // 2)),
+            "--segs", str(-(-leaves * 3 // 2)), "--seg-len", "1", "--fan", "2", "load"])
+        self.assertEqual(Path("v").read_bytes(), b"made\n" + ONE)
+        self.assertEqual(sorted(os.listdir()), ["one", "program", "said", "v"])
+
+    def test_refused(self) -> None:
+        """what is no dump, a name that is there and a program without `load` make no volume"""
+        Path("one").write_bytes(ONE)
+        Path("cut").write_bytes(ONE[:-1])
+        self.program('[ "$1" = format ] && echo made >"$2" && exit 0; '
+                     'echo exsm: status 2 usage >&2; exit 2')
+        for path, volume, status, error in [
+                ("one", "one", 1, "one: it is there already"),
+                ("none", "v", 1, "none: No such file or directory"),
+                ("one", "v", 2, "the program exsm has no `load`: take a newer one")]:
+            ran = self.tool("exsm_backup", "--restore", path, volume)
+            self.assertEqual((ran.status, ran.lines, ran.errors),
+                             (status, [], [f"exsm_backup: {error}; no volume was made"]))
+        ran = self.tool("exsm_backup", "--restore", "cut", "v")
+        self.assertEqual((ran.status, ran.lines), (1, []))
+        self.assertTrue(ran.errors[0].startswith("exsm_backup: cut: no dump: byte "), ran.errors)
+        self.assertEqual(Path("one").read_bytes(), ONE)
+        self.assertEqual(sorted(os.listdir()), ["cut", "one", "program"])
+
+    def test_too_large(self) -> None:
+        """a dump that needs more than a volume has is told as such"""
+        head = Head(512, 1, 2, 1, 0, 0, 4_000_001, 0, 0)
+        with self.assertRaisesRegex(
+                TooLarge, "it needs 4,000,001 segs, and a volume has at most 4,000,000"):
+            geometry_for(head)
+        self.assertEqual(geometry_for(head._replace(leaves=3_000_000)).segs, 4_000_000)
+
+    def backed_up(self) -> None:
+        """Makes a volume, v, and its backup, b."""
+        self.format(page_size=4096, pages=400, segs=5000, fan=169)
+        if self.exsm("load", "v").status == 2:
+            self.skipTest("the program has no `load`")
+        with Store("v") as store, store.transaction():
+            store.file("a")
+            for place in range(40):
+                store.append(store.create("a"), bytes([place]) * (place * 4_000))
+        self.assertEqual(self.tool("exsm_backup", "v", "b").status, 0)
+
+    def test_loaded(self) -> None:
+        """what is restored has the same history: its dump is the one that it was made of"""
+        self.backed_up()
+        self.assertEqual(self.tool("exsm_backup", "--restore", "b", "w").status, 0)
+        self.assertEqual(self.tool("exsm_backup", "w", "c").status, 0)
+        self.assertEqual(Path("c").read_bytes(), Path("b").read_bytes())
+        self.assertEqual(sorted(os.listdir()), ["b", "c", "v", "w"])
+
+    def test_kills(self) -> None:
+        """kills while it restores: a volume has its name only when all of the dump is there"""
+        self.backed_up()
+        begun = time.monotonic()
+        self.assertEqual(self.tool("exsm_backup", "--restore", "b", "w").status, 0)
+        taken = time.monotonic() - begun
+        os.unlink("w")
+        chance = random.Random(5)
+        for _ in range(KILLS):
+            status = killed(chance, 1.2 * taken, "exsm_backup", "--restore", "b", "w")
+            if os.path.exists("w"):
+                self.assertEqual(self.exsm("dump", "w").out, Path("b").read_bytes())
+                os.unlink("w")
+            else:
+                self.assertNotEqual(status, 0)
+        self.assertEqual(self.tool("exsm_backup", "--restore", "b", "w").status, 0)
+        self.assertEqual(sorted(os.listdir()), ["b", "v", "w"])
