@@ -19,7 +19,7 @@ use Rattle.trees.proofs.Counts.{counted_back, counted_leaf}
 use Rattle.trees.proofs.Laid.{extends_refl, took_more}
 use Rattle.trees.proofs.Reading.{part_of_front}
 use Rattle.compact.specs.High.{is_high, free_below}
-use Rattle.compact.specs.Moved.{Copies, KeepsCopies, unmoved}
+use Rattle.compact.specs.Moved.{Copies, HasCopy, KeepsCopies, unmoved}
 use Rattle.compact.specs.Walk.{Move, CanMove, IsGoodPair, IsTreeOf, LeafCopied, TreeMoved}
 use Rattle.compact.proofs.Unmoved.{free_less, lowest_index, lowest_low, unmoved_exact, unmoved_less}
 use Rattle.compact.proofs.Pairs.{begun_tree, good_self, pairs_later, pairs_put}
@@ -53,7 +53,7 @@ module _ {S : Type 0} (g : ground.Ghosts S) where
   pub low_leaf : (move : Move S) (dense : ℕ) (s : S) (moves : Copies) (least : ℕ) (part : Part) → CanMove g move dense s moves 0 least (part ∷ []) → is_high (g.geometry s) dense part.page.0 ≡ false
       → TreeMoved g move dense s s moves moves 0 part.page.0 part.page.0
   low_leaf move dense s moves least part can low = record {
-    good = good_self g move dense s 0 least part can.trees.0 (low, tt);
+    good = good_self g move dense s moves 0 least part can.trees.0 (low, tt) (record { leaves = subst (λ (b : Bool). AllByRecursion (HasCopy moves) (if b then part.page.0 ∷ [] else [])) (sym low) tt; nodes = tt });
     step = step_noted g move dense s moves moves (units_on (g.unit s) 0 part.page.0) (units_on (g.unit s) 0 part.page.0) (λ p c is. is) refl (λ p c is. inl is) can.pairs;
   }
 
@@ -93,7 +93,8 @@ module _ {S : Type 0} (g : ground.Ghosts S) where
       let low : is_high (g.geometry old) dense copy.0 ≡ false = lowest_low (g.geometry old) (g.used old) dense copy.0 copied.lowest some in
       let same : g.unit new part.page.0 ≡ g.unit old part.page.0 = ext.units part.page.0 t.used.0 in
       let taken = copied.took.each.0 in
-      let good : IsGoodPair g move dense new 0 part.page.0 copy.0 = record {
+      let high_now : is_high (g.geometry new) dense part.page.0 ≡ true = subst (λ (h : Geometry). is_high h dense part.page.0 ≡ true) (sym geo) high in
+      let good : IsGoodPair g move dense new after 0 part.page.0 copy.0 = record {
         sound = record {
           named = subst (λ (h : Geometry). NamesLeaf h copy.0) (sym geo) copied.named;
           sized = λ n h. h;
@@ -102,9 +103,10 @@ module _ {S : Type 0} (g : ground.Ghosts S) where
           used = (taken.1, tt);
           low = (subst (λ (h : Geometry). is_high h dense copy.0 ≡ false) (sym geo) low, tt);
           still = λ not. absurd (true≢false (sym high ∙ subst (λ (h : Geometry). is_high h dense part.page.0 ≡ false) geo not));
-          stay = subst (λ (b : Bool). AllByRecursion (Has (copy.0 ∷ [])) (if b then [] else part.page.0 ∷ [])) (sym (subst (λ (h : Geometry). is_high h dense part.page.0 ≡ true) (sym geo) high)) tt;
+          stay = subst (λ (b : Bool). AllByRecursion (Has (copy.0 ∷ [])) (if b then [] else part.page.0 ∷ [])) (sym high_now) tt;
         };
         own = (inl (free_before g move.start old copy.0 can.since taken.0, taken.1), tt);
+        sent = record { leaves = subst (λ (b : Bool). AllByRecursion (HasCopy after) (if b then part.page.0 ∷ [] else [])) (sym high_now) ((copy, here), tt); nodes = tt };
       } in
       record {
         good = good;
@@ -118,7 +120,7 @@ module _ {S : Type 0} (g : ground.Ghosts S) where
             | inl e ↦ inr (inl (sym e), inl (same_copy copy c (sym here ∙ ap after (sym e) ∙ is)))
             | inr differ ↦ inl (sym (others q differ) ∙ is)
           ];
-          pairs = pairs_put g move dense new moves after 0 part.page.0 copy here others begun.0 good (pairs_later g move dense old new moves can.since ext can.pairs);
+          pairs = pairs_put g move dense new moves after 0 part.page.0 copy keeps here others begun.0 good (pairs_later g move dense old new moves can.since ext can.pairs);
           paid = record {
             of_pages = omega (arith, copied.spent.of_pages, unmoved_less moves after move.nodes keeps);
             of_leaves = omega (arith, copied.spent.of_leaves, one);

@@ -65,8 +65,8 @@ module _ {S : Type 0} (g : ground.Ghosts S) where
   }
 
   -- a tree that is its own copy where it has no high leaf
-  still_there : (move : Move S) (dense : ℕ) (b : S) (l page copy : ℕ) → (x : IsGoodPair g move dense b l page copy) → copy ≢ page → has_high (g.geometry b) dense (g.unit b) l page ≡ true
-  still_there move dense b l page copy x differ = by_test (has_high (g.geometry b) dense (g.unit b) l page) refl
+  still_there : (move : Move S) (dense : ℕ) (b : S) (moves : Copies) (l page copy : ℕ) → (x : IsGoodPair g move dense b moves l page copy) → copy ≢ page → has_high (g.geometry b) dense (g.unit b) l page ≡ true
+  still_there move dense b moves l page copy x differ = by_test (has_high (g.geometry b) dense (g.unit b) l page) refl
     where
       by_test : (t : Bool) → has_high (g.geometry b) dense (g.unit b) l page ≡ t → has_high (g.geometry b) dense (g.unit b) l page ≡ true
       by_test true is = is
@@ -83,7 +83,7 @@ module _ {S : Type 0} (g : ground.Ghosts S) where
       let whole = extends_on g old now new one two in
       let geo : g.geometry new ≡ g.geometry old = g.leads_geometry old new whole.leads in
       let trees_now = each_later g move dense old now l (g.geometry old).fan row one trees in
-      let rows = row_as g move dense now l (g.geometry old).fan row made x.good sizes trees_now in
+      let rows = row_as g move dense now mid l (g.geometry old).fan row made x.good sizes trees_now in
       let same : row_units (g.unit new) l made ≡ row_units (g.unit now) l made = (row_extends g now new l made two (record { trees = rows.trees; used = rows.used })).units in
       let tree_units : units_on (g.unit now) l part.page.0 ≡ units_on (g.unit old) l part.page.0 = units_same (g.unit old) (g.unit now) l part.page.0 (kept_of g old now (units_on (g.unit old) l part.page.0) one tree.used) in
       let was : row_units (g.unit old) l row ++ units_on (g.unit now) l part.page.0 ≡ row_units (g.unit old) l (row ++ (part ∷ [])) =
@@ -92,7 +92,7 @@ module _ {S : Type 0} (g : ground.Ghosts S) where
       ap (λ (xs : List ℕ). xs ++ units_on (g.unit new) l copy.0) (sym same) ∙ ap (λ (xs : List ℕ). row_units (g.unit new) l made ++ xs) (sym (append-nil (units_on (g.unit new) l copy.0))) ∙ sym (units_app (g.unit new) l made (last ∷ [])) in
       let step = step_on g move dense old now new moves mid after (row_units (g.unit old) l row) (row_units (g.unit now) l made) (units_on (g.unit now) l part.page.0) (units_on (g.unit new) l copy.0) one two keeps x.step y.step in
       record {
-        good = zip_more (λ (tree copy : Part). IsGoodPair g move dense new l tree.page.0 copy.page.0) row made part last (good_row g move dense now new l (g.geometry old).fan row made two trees_now x.good) y.good;
+        good = zip_more (λ (tree copy : Part). IsGoodPair g move dense new after l tree.page.0 copy.page.0) row made part last (good_row g move dense now new mid after l (g.geometry old).fan row made two keeps trees_now x.good) y.good;
         step = subst (λ (xs : List ℕ). Stepped g move dense old new moves after xs (row_units (g.unit new) l (made ++ (last ∷ [])))) was (subst (λ (xs : List ℕ). Stepped g move dense old new moves after (row_units (g.unit old) l row ++ units_on (g.unit now) l part.page.0) xs) is step);
         same = λ no.
             let both = not_turned no in
@@ -102,7 +102,7 @@ module _ {S : Type 0} (g : ground.Ghosts S) where
           | inr differ ↦
               any_last (λ (p : Part). has_high (g.geometry old) dense (g.unit old) l p.page.0 ≡ true) row part
               (sym (high_same (g.geometry old) dense (g.unit old) (g.unit new) l part.page.0 (kept_of g old new (units_on (g.unit old) l part.page.0) whole tree.used)).high
-              ∙ subst (λ (h : Geometry). has_high h dense (g.unit new) l part.page.0 ≡ true) geo (still_there move dense new l part.page.0 copy.0 y.good differ))
+              ∙ subst (λ (h : Geometry). has_high h dense (g.unit new) l part.page.0 ≡ true) geo (still_there move dense new after l part.page.0 copy.0 y.good differ))
         ];
       }
 

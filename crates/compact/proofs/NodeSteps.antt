@@ -12,6 +12,7 @@ use Rattle.ex_base.specs.Area.{InPageArea}
 use Rattle.ex_base.specs.Ports.{Keeps}
 use Rattle.ex_base.proofs.Options.{some_apart}
 use Rattle.ex_base.proofs.Each.{each_as, split_each}
+use Rattle.ex_base.proofs.Rows.{each-append}
 use Rattle.trees.specs.Built.{Built}
 use Rattle.trees.specs.Damage.{AnyPart}
 use Rattle.trees.specs.Made.{Extends, Has, sizes_of}
@@ -26,12 +27,12 @@ use Rattle.trees.proofs.Over.{has_split}
 use Rattle.trees.proofs.Reading.{row_spells, shape_below, units_below}
 use Rattle.trees.proofs.RootSteps.{has_each}
 use Rattle.trees.proofs.Kept.{row_extends}
-use Rattle.compact.specs.High.{has_high, is_high, low_leaves, nodes_above}
-use Rattle.compact.specs.Moved.{AreLow, Copies, IsOwn, KeepsCopies, unmoved}
+use Rattle.compact.specs.High.{has_high, high_leaves, is_high, low_leaves, nodes_above}
+use Rattle.compact.specs.Moved.{AreLow, Copies, HasCopy, IsOwn, IsSent, KeepsCopies, unmoved}
 use Rattle.compact.specs.Walk.{CanMove, IsGoodPair, IsTreeOf, Move, NodeMade, RowMoved, Stepped, TreeMoved}
 use Rattle.compact.proofs.LeafSteps.{at_root, same_copy}
 use Rattle.compact.proofs.Levels.{high_same, low_row, not_below}
-use Rattle.compact.proofs.Pairs.{begun_tree, each_later, good_later, good_self, kept_of, pairs_later, pairs_put, tree_later}
+use Rattle.compact.proofs.Pairs.{begun_tree, each_later, good_later, good_more, good_self, kept_of, pairs_later, pairs_put, tree_later}
 use Rattle.compact.proofs.Rows.{RowAs, any_high, row_as, trees_below}
 use Rattle.compact.proofs.Steps.{free_before, others_same, room_later, step_as, step_kept, step_noted, step_on}
 use Rattle.compact.proofs.Unmoved.{free_beside, no_leaf_page, page_low, unmoved_one, unmoved_same, unmoved_some}
@@ -64,7 +65,7 @@ module _ {S : Type 0} (g : ground.Ghosts S) where
     pub keeps : KeepsCopies moves mid
     pub none : moves part.page.0 ≡ None
     pub step : Stepped g move dense a b moves mid (row_units (g.unit a) l below) (row_units (g.unit b) l made)
-    pub good : AllZip (λ (tree copy : Part). IsGoodPair g move dense b l tree.page.0 copy.page.0) below made
+    pub good : AllZip (λ (tree copy : Part). IsGoodPair g move dense b mid l tree.page.0 copy.page.0) below made
     pub above : changed ≡ true → has_high (g.geometry a) dense (g.unit a) (suc l) part.page.0 ≡ true
 
   pub row_below : (move : Move S) (dense : ℕ) (a r b : S) (moves mid : Copies) (l level least : ℕ) (part : Part) (below made : List Part) (changed : Bool) → CanMove g move dense a moves (suc l) least (part ∷ []) → Keeps g a r
@@ -130,6 +131,33 @@ module _ {S : Type 0} (g : ground.Ghosts S) where
     | inr here ↦ elim here [ inl e ↦ inl e | inr none ↦ absurd none ]
   ])
 
+  -- good pairs of a row, in a later state, with more copies
+  pub good_row : (move : Move S) (dense : ℕ) (a b : S) (moves after : Copies) (l least : ℕ) (row made : List Part) → Extends g a b → KeepsCopies moves after → AllByRecursion (IsTreeOf g move dense a l least) row → AllZip (λ (tree copy : Part). IsGoodPair g move dense a moves l tree.page.0 copy.page.0) row made
+      → AllZip (λ (tree copy : Part). IsGoodPair g move dense b after l tree.page.0 copy.page.0) row made
+  good_row move dense a b moves after l least [] [] ext keeps trees good = tt
+  good_row move dense a b moves after l least [] (copy ∷ made) ext keeps trees good = good
+  good_row move dense a b moves after l least (part ∷ row) [] ext keeps trees good = good
+  good_row move dense a b moves after l least (part ∷ row) (copy ∷ made) ext keeps trees good = (
+    good_more g move dense b moves after l part.page.0 copy.page.0 keeps (good_later g move dense a b moves l part.page.0 copy.page.0 ext trees.0.used good.0),
+    good_row move dense a b moves after l least row made ext keeps trees.1 good.1,
+  )
+
+  -- what a node that has a copy leads to was sent where what the trees of its row lead to was
+  node_sent : (move : Move S) (dense : ℕ) (s : S) (moves : Copies) (l : ℕ) (part : Part) (below made : List Part) (copy : PageNo) → below ≡ parts_of 0 (pairs_on (g.unit s part.page.0)) → moves part.page.0 ≡ Some copy → RowAs g move dense s moves l below made
+      → IsSent (g.geometry s) dense (g.unit s) moves (suc l) part.page.0
+  node_sent move dense s moves l part below made copy is here rows = record {
+    leaves = subst (AllByRecursion (HasCopy moves)) (below_is (high_leaves (g.geometry s) dense (g.unit s) l)) rows.leaves;
+    nodes = each-append (HasCopy moves) (if has_high (g.geometry s) dense (g.unit s) (suc l) part.page.0 then part.page.0 ∷ [] else []) (flat_map (nodes_above (g.geometry s) dense (g.unit s) l) (named_on (g.unit s) part.page.0)) (own (has_high (g.geometry s) dense (g.unit s) (suc l) part.page.0))
+        (subst (AllByRecursion (HasCopy moves)) (below_is (nodes_above (g.geometry s) dense (g.unit s) l)) rows.nodes);
+  }
+    where
+      below_is : (f : ℕ → List ℕ) → flat_map (λ (p : Part). f p.page.0) below ≡ flat_map f (named_on (g.unit s) part.page.0)
+      below_is f = ap (flat_map (λ (p : Part). f p.page.0)) is ∙ low_row f 0 (pairs_on (g.unit s part.page.0))
+
+      own : (leads : Bool) → AllByRecursion (HasCopy moves) (if leads then part.page.0 ∷ [] else [])
+      own true = ((copy, here), tt)
+      own false = tt
+
   -- no tree below it is another one: it is its own copy
   pub node_stays : (move : Move S) (dense : ℕ) (a b : S) (moves mid after : Copies) (l least : ℕ) (part : Part) (below made : List Part) (changed : Bool) → Below move dense a b moves mid l least part below made changed → made ≡ below
       → KeepsCopies mid after → after part.page.0 ≡ Some part.page → ((q : ℕ) → q ≢ part.page.0 → after q ≡ mid q) → TreeMoved g move dense a b moves after (suc l) part.page.0 part.page.0
@@ -138,12 +166,12 @@ module _ {S : Type 0} (g : ground.Ghosts S) where
       let tree = tree_later g move dense a b (suc l) least part x.extends was in
       let is : below ≡ parts_of 0 (pairs_on (g.unit b part.page.0)) = x.is ∙ ap (λ (bytes : List ℕ). parts_of 0 (pairs_on bytes)) (sym (x.extends.units part.page.0 was.used.0)) in
       let trees = each_later g move dense a b l (g.geometry a).fan below x.extends (trees_below g move dense a l least part below was x.is) in
-      let rows = row_as g move dense b l (g.geometry a).fan below made x.good x.sizes trees in
+      let rows = row_as g move dense b after l (g.geometry a).fan below made (good_row move dense b b mid after l (g.geometry a).fan below made (extends_refl g b) keeps trees x.good) x.sizes trees in
       let low : AreLow (g.geometry b) dense (units_on (g.unit b) (suc l) part.page.0) = subst (AreLow (g.geometry b) dense) (sym (node_units (g.unit b) l part below is))
       (page_low (g.geometry b) dense part.page.0 tree.named.0, subst (λ (r : List Part). AreLow (g.geometry b) dense (row_units (g.unit b) l r)) same rows.low) in
-      let good = good_self g move dense b (suc l) least part tree low in
+      let good = good_self g move dense b after (suc l) least part tree low (node_sent move dense b after l part below made part.page is here rows) in
       let begun = begun_tree g move dense a (suc l) least part x.can.since was in
-      let pairs = pairs_put g move dense b mid after (suc l) part.page.0 part.page here others begun.0 good x.step.pairs in
+      let pairs = pairs_put g move dense b mid after (suc l) part.page.0 part.page keeps here others begun.0 good x.step.pairs in
       let noted = step_noted g move dense b mid after (part.page.0 ∷ []) (part.page.0 ∷ []) keeps (unmoved_same mid after move.leaves part.page.0 others (no_leaf_page (g.geometry a) move.leaves part.page.0 x.can.leaves was.named.0)) (fresh_one mid after part.page.0 part.page here others) pairs in
       record {
         good = good;
@@ -151,14 +179,6 @@ module _ {S : Type 0} (g : ground.Ghosts S) where
             (wider (g.unit a) l part below x.is) (λ p has. wider (g.unit b) l part below is p (subst (λ (r : List Part). Has (row_units (g.unit b) l r ++ (part.page.0 ∷ [])) p) same has))
             (step_on g move dense a b b moves mid after (row_units (g.unit a) l below) (row_units (g.unit b) l made) (part.page.0 ∷ []) (part.page.0 ∷ []) x.extends (extends_refl g b) keeps x.step noted);
       }
-
-  -- good pairs of a row, in a later state
-  pub good_row : (move : Move S) (dense : ℕ) (a b : S) (l least : ℕ) (row made : List Part) → Extends g a b → AllByRecursion (IsTreeOf g move dense a l least) row → AllZip (λ (tree copy : Part). IsGoodPair g move dense a l tree.page.0 copy.page.0) row made
-      → AllZip (λ (tree copy : Part). IsGoodPair g move dense b l tree.page.0 copy.page.0) row made
-  good_row move dense a b l least [] [] ext trees good = tt
-  good_row move dense a b l least [] (copy ∷ made) ext trees good = good
-  good_row move dense a b l least (part ∷ row) [] ext trees good = good
-  good_row move dense a b l least (part ∷ row) (copy ∷ made) ext trees good = (good_later g move dense a b l part.page.0 copy.page.0 ext trees.0.used good.0, good_row move dense a b l least row made ext trees.1 good.1)
 
   -- what holds of a new node and of the units of its row holds of its tree's
   each_unit : (P : ℕ → Type 0) (s : S) (l : ℕ) (row : List Part) (node : Part) → Built g s l (length row ∷ []) row (node ∷ []) → P node.page.0 → AllByRecursion P (row_units (g.unit s) l row) → AllByRecursion P (units_on (g.unit s) (suc l) node.page.0)
@@ -170,28 +190,29 @@ module _ {S : Type 0} (g : ground.Ghosts S) where
       ]) own
 
   -- a new node over the copies is a good one
-  made_good : (move : Move S) (dense : ℕ) (c : S) (l least : ℕ) (part : Part) (below made : List Part) (node : ℕ) → IsTreeOf g move dense c (suc l) least part → below ≡ parts_of 0 (pairs_on (g.unit c part.page.0)) → RowAs g move dense c l below made
-      → has_high (g.geometry c) dense (g.unit c) (suc l) part.page.0 ≡ true → g.used move.start node ≡ false → g.used c node ≡ true → Built g c l (length made ∷ []) made (record { size = part.size; page = record { 0 = node } } ∷ [])
-      → IsGoodPair g move dense c (suc l) part.page.0 node
-  made_good move dense c l least part below made node tree is rows high free used built = record {
+  made_good : (move : Move S) (dense : ℕ) (c : S) (moves : Copies) (l least : ℕ) (part : Part) (below made : List Part) (node : PageNo) → IsTreeOf g move dense c (suc l) least part → below ≡ parts_of 0 (pairs_on (g.unit c part.page.0)) → RowAs g move dense c moves l below made → moves part.page.0 ≡ Some node
+      → has_high (g.geometry c) dense (g.unit c) (suc l) part.page.0 ≡ true → g.used move.start node.0 ≡ false → g.used c node.0 ≡ true → Built g c l (length made ∷ []) made (record { size = part.size; page = node } ∷ [])
+      → IsGoodPair g move dense c moves (suc l) part.page.0 node.0
+  made_good move dense c moves l least part below made node tree is rows here high free used built = record {
     sound = record {
       named = built.trees.0.0;
-      sized = λ n h. subst (HasSize (g.geometry c) (g.unit c) (suc l) node) (sym tree.sized.0 ∙ h.0) built.trees.0.1;
-      bytes = λ n h. sym (append-nil (bytes_on (g.unit c) (suc l) node n)) ∙ built.bytes ∙ rows.bytes ∙ row_spells (g.unit c) l part.page.0 n below is;
+      sized = λ n h. subst (HasSize (g.geometry c) (g.unit c) (suc l) node.0) (sym tree.sized.0 ∙ h.0) built.trees.0.1;
+      bytes = λ n h. sym (append-nil (bytes_on (g.unit c) (suc l) node.0 n)) ∙ built.bytes ∙ rows.bytes ∙ row_spells (g.unit c) l part.page.0 n below is;
       shape = λ n h.
-          let front : shape_on (g.unit c) (suc l) node n ≡ take (length made) (row_shape (g.unit c) l made) = cons_head built.shape in
+          let front : shape_on (g.unit c) (suc l) node.0 n ≡ take (length made) (row_shape (g.unit c) l made) = cons_head built.shape in
           front ∙ all_shape (g.unit c) l made ∙ rows.shape ∙ sym (shape_below (g.unit c) l part.page.0 n below is);
-      used = each_unit (λ p. g.used c p ≡ true) c l made (record { size = part.size; page = record { 0 = node } }) built used rows.used;
-      low = each_unit (λ p. is_high (g.geometry c) dense p ≡ false) c l made (record { size = part.size; page = record { 0 = node } }) built (page_low (g.geometry c) dense node built.trees.0.0.0) rows.low;
+      used = each_unit (λ p. g.used c p ≡ true) c l made (record { size = part.size; page = node }) built used rows.used;
+      low = each_unit (λ p. is_high (g.geometry c) dense p ≡ false) c l made (record { size = part.size; page = node }) built (page_low (g.geometry c) dense node.0 built.trees.0.0.0) rows.low;
       still = λ none. absurd (true≢false (sym high ∙ none));
       stay =
           let leaves : flat_map (λ (p : Part). low_leaves (g.geometry c) dense (g.unit c) l p.page.0) below ≡ low_leaves (g.geometry c) dense (g.unit c) (suc l) part.page.0 =
           ap (flat_map (λ (p : Part). low_leaves (g.geometry c) dense (g.unit c) l p.page.0)) is ∙ low_row (low_leaves (g.geometry c) dense (g.unit c) l) 0 (pairs_on (g.unit c part.page.0)) in
-          each_as (Has (row_units (g.unit c) l made)) (Has (units_on (g.unit c) (suc l) node)) (low_leaves (g.geometry c) dense (g.unit c) (suc l) part.page.0)
-          (λ p has. subst (λ (xs : List ℕ). Has xs p) (append-nil (units_on (g.unit c) (suc l) node)) (built.all p (inr has)))
+          each_as (Has (row_units (g.unit c) l made)) (Has (units_on (g.unit c) (suc l) node.0)) (low_leaves (g.geometry c) dense (g.unit c) (suc l) part.page.0)
+          (λ p has. subst (λ (xs : List ℕ). Has xs p) (append-nil (units_on (g.unit c) (suc l) node.0)) (built.all p (inr has)))
           (subst (AllByRecursion (Has (row_units (g.unit c) l made))) leaves rows.stay);
     };
-    own = each_unit (IsOwn g move.start c move.first move.units) c l made (record { size = part.size; page = record { 0 = node } }) built (inl (free, used)) rows.own;
+    own = each_unit (IsOwn g move.start c move.first move.units) c l made (record { size = part.size; page = node }) built (inl (free, used)) rows.own;
+    sent = node_sent move dense c moves l part below made node is here rows;
   }
 
   -- some tree below it is another one: its copy is a new node
@@ -206,14 +227,14 @@ module _ {S : Type 0} (g : ground.Ghosts S) where
       let first = trees_below g move dense a l least part below was x.is in
       let before = each_later g move dense a b l (g.geometry a).fan below x.extends first in
       let trees = each_later g move dense a c l (g.geometry a).fan below whole first in
-      let rows_then = row_as g move dense b l (g.geometry a).fan below made x.good x.sizes before in
-      let rows = row_as g move dense c l (g.geometry a).fan below made (good_row move dense b c l (g.geometry a).fan below made ext before x.good) x.sizes trees in
+      let rows_then = row_as g move dense b mid l (g.geometry a).fan below made x.good x.sizes before in
+      let rows = row_as g move dense c after l (g.geometry a).fan below made (good_row move dense b c mid after l (g.geometry a).fan below made ext keeps before x.good) x.sizes trees in
       let high_then = x.above turned in
       let high : has_high (g.geometry c) dense (g.unit c) (suc l) part.page.0 ≡ true = subst (λ (h : Geometry). has_high h dense (g.unit c) (suc l) part.page.0 ≡ true) (sym geo)
       ((high_same (g.geometry a) dense (g.unit a) (g.unit c) (suc l) part.page.0 (kept_of g a c (units_on (g.unit a) (suc l) part.page.0) whole was.used)).high ∙ high_then) in
       let taken = new.took.each.0 in
       let since = extends_on g move.start a b x.can.since x.extends in
-      let good = made_good move dense c l least part below made node.0 tree is rows high (free_before g move.start b node.0 since taken.0) taken.1 new.built in
+      let good = made_good move dense c after l least part below made node tree is rows here high (free_before g move.start b node.0 since taken.0) taken.1 new.built in
       let begun = begun_tree g move dense a (suc l) least part x.can.since was in
       let one : unmoved after move.nodes + 1 ≤ unmoved mid move.nodes = unmoved_one mid after move.nodes part.page.0 node keeps (node_listed move dense a l least part was high_then) (no_copy move dense a b moves mid l least part below made changed x) here in
       let area = subst (λ (h : Geometry). InPageArea h node.0) (g.leads_geometry b c ext.leads) new.built.trees.0.0.0 in
@@ -225,7 +246,7 @@ module _ {S : Type 0} (g : ground.Ghosts S) where
           | inr none ↦ absurd none
         ];
         fresh = fresh_one mid after part.page.0 node here others;
-        pairs = pairs_put g move dense c mid after (suc l) part.page.0 node here others begun.0 good (pairs_later g move dense b c mid since ext x.step.pairs);
+        pairs = pairs_put g move dense c mid after (suc l) part.page.0 node keeps here others begun.0 good (pairs_later g move dense b c mid since ext x.step.pairs);
         paid = record {
           of_pages = omega (arith, new.spent.of_pages, one);
           of_leaves = omega (arith, new.spent.of_leaves, alike);

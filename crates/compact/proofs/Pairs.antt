@@ -13,12 +13,25 @@ use Rattle.trees.specs.Trees.{Units, IsNamed, HasSize, shape_on, units_on}
 use Rattle.trees.specs.declared.rows.Part.{Part}
 use Rattle.trees.proofs.SameUnits.{Kept, units_same, bytes_same, shape_same, named_same, sized_same}
 use Rattle.compact.specs.High.{has_high, nodes_above, high_leaves, low_leaves}
-use Rattle.compact.specs.Moved.{Copies, AreLow, IsOwn}
+use Rattle.compact.specs.Moved.{Copies, AreLow, HasCopy, IsOwn, IsSent, KeepsCopies}
 use Rattle.compact.specs.Walk.{Move, HasLeast, IsTreeOf, IsGoodPair, AreGood}
 use Rattle.compact.proofs.Levels.{same_level, high_same, low_inside}
 
 pub kept_back : (u v : Units) (l page : ℕ) → Kept u v (units_on u l page) → Kept v u (units_on v l page)
 kept_back u v l page kept = subst (Kept v u) (sym (units_same u v l page kept)) (each_as (λ p. v p ≡ u p) (λ p. u p ≡ v p) (units_on u l page) (λ p e. sym e) kept)
+
+-- what has a copy keeps it
+pub each_sent : (moves after : Copies) (pages : List ℕ) → KeepsCopies moves after → AllByRecursion (HasCopy moves) pages → AllByRecursion (HasCopy after) pages
+each_sent moves after pages keeps sent = each_as (HasCopy moves) (HasCopy after) pages (λ p has. (has.0, keeps p has.0 has.1)) sent
+
+-- what was sent of a tree stays so where its units are kept
+pub sent_same : (g : Geometry) (dense : ℕ) (u v : Units) (moves : Copies) (l page : ℕ) → Kept u v (units_on u l page) → IsSent g dense u moves l page → IsSent g dense v moves l page
+sent_same g dense u v moves l page kept sent =
+    let high = high_same g dense u v l page kept in
+    record {
+      leaves = subst (AllByRecursion (HasCopy moves)) (sym high.leaves) sent.leaves;
+      nodes = subst (AllByRecursion (HasCopy moves)) (sym high.nodes) sent.nodes;
+    }
 
 module _ {S : Type 0} (g : ground.Ghosts S) where
   pub kept_of : (a b : S) (units : List ℕ) → Extends g a b → AreUsed (g.used a) units → Kept (g.unit a) (g.unit b) units
@@ -57,9 +70,20 @@ module _ {S : Type 0} (g : ground.Ghosts S) where
     | inr other ↦ inr other
   ]) own
 
-  -- a good pair, in a later state
-  pub good_later : (move : Move S) (dense : ℕ) (a b : S) (l page copy : ℕ) → Extends g a b → AreUsed (g.used a) (units_on (g.unit a) l page) → IsGoodPair g move dense a l page copy → IsGoodPair g move dense b l page copy
-  good_later move dense a b l page copy ext used good =
+  -- a good pair, with more copies
+  pub good_more : (move : Move S) (dense : ℕ) (s : S) (moves after : Copies) (l page copy : ℕ) → KeepsCopies moves after → IsGoodPair g move dense s moves l page copy → IsGoodPair g move dense s after l page copy
+  good_more move dense s moves after l page copy keeps good = record {
+    sound = good.sound;
+    own = good.own;
+    sent = record {
+      leaves = each_sent moves after (high_leaves (g.geometry s) dense (g.unit s) l page) keeps good.sent.leaves;
+      nodes = each_sent moves after (nodes_above (g.geometry s) dense (g.unit s) l page) keeps good.sent.nodes;
+    };
+  }
+
+  -- and in a later state
+  pub good_later : (move : Move S) (dense : ℕ) (a b : S) (moves : Copies) (l page copy : ℕ) → Extends g a b → AreUsed (g.used a) (units_on (g.unit a) l page) → IsGoodPair g move dense a moves l page copy → IsGoodPair g move dense b moves l page copy
+  good_later move dense a b moves l page copy ext used good =
       let s = good.sound in
       let geo : g.geometry b ≡ g.geometry a = g.leads_geometry a b ext.leads in
       let kept = kept_of a b (units_on (g.unit a) l copy) ext s.used in
@@ -80,13 +104,14 @@ module _ {S : Type 0} (g : ground.Ghosts S) where
               (subst (λ (us : List ℕ). AllByRecursion (Has us) (low_leaves (g.geometry a) dense (g.unit a) l page)) (sym units) s.stay));
         };
         own = subst (AllByRecursion (IsOwn g move.start b move.first move.units)) (sym units) (own_later move a b (units_on (g.unit a) l copy) ext good.own);
+        sent = subst (λ (h : Geometry). IsSent h dense (g.unit b) moves l page) (sym geo) (sent_same (g.geometry a) dense (g.unit a) (g.unit b) moves l page from good.sent);
       }
 
   -- all of them
   pub pairs_later : (move : Move S) (dense : ℕ) (a b : S) (moves : Copies) → Extends g move.start a → Extends g a b → AreGood g move dense a moves → AreGood g move dense b moves
   pairs_later move dense a b moves since ext good = λ level page copy has sent named used.
       let units : units_on (g.unit a) level page ≡ units_on (g.unit move.start) level page = units_same (g.unit move.start) (g.unit a) level page (kept_of move.start a (units_on (g.unit move.start) level page) since used) in
-      good_later move dense a b level page copy.0 ext (subst (AreUsed (g.used a)) (sym units) (used_on move.start a (units_on (g.unit move.start) level page) since used)) (good level page copy has sent named used)
+      good_later move dense a b moves level page copy.0 ext (subst (AreUsed (g.used a)) (sym units) (used_on move.start a (units_on (g.unit move.start) level page) since used)) (good level page copy has sent named used)
 
   -- a tree of the move stood at the start
   pub begun_tree : (move : Move S) (dense : ℕ) (s : S) (l least : ℕ) (part : Part) → Extends g move.start s → IsTreeOf g move dense s l least part
@@ -98,20 +123,22 @@ module _ {S : Type 0} (g : ground.Ghosts S) where
       )
 
   -- one pair more
-  pub pairs_put : (move : Move S) (dense : ℕ) (s : S) (moves after : Copies) (l page : ℕ) (copy : PageNo) → after page ≡ Some copy → ((q : ℕ) → q ≢ page → after q ≡ moves q)
-      → IsNamed (g.geometry move.start) (g.unit move.start) l page → IsGoodPair g move dense s l page copy.0 → AreGood g move dense s moves → AreGood g move dense s after
-  pairs_put move dense s moves after l page copy here others named good all = λ level q c has sent there used. elim (cases_eq q page) [
+  pub pairs_put : (move : Move S) (dense : ℕ) (s : S) (moves after : Copies) (l page : ℕ) (copy : PageNo) → KeepsCopies moves after → after page ≡ Some copy → ((q : ℕ) → q ≢ page → after q ≡ moves q)
+      → IsNamed (g.geometry move.start) (g.unit move.start) l page → IsGoodPair g move dense s after l page copy.0 → AreGood g move dense s moves → AreGood g move dense s after
+  pairs_put move dense s moves after l page copy keeps here others named good all = λ level q c has sent there used. elim (cases_eq q page) [
     | inl same ↦
         let which : Some copy ≡ Some c = sym here ∙ ap after (sym same) ∙ sent in
         let is : copy ≡ c = cc in
         let at : level ≡ l = same_level (g.geometry move.start) (g.unit move.start) level l page (subst (IsNamed (g.geometry move.start) (g.unit move.start) level) same there) named in
-        subst (λ k. IsGoodPair g move dense s k q c.0) (sym at) (subst (λ p. IsGoodPair g move dense s l p c.0) (sym same) (subst (λ (d : PageNo). IsGoodPair g move dense s l page d.0) is good))
-    | inr differ ↦ all level q c has (sym (others q differ) ∙ sent) there used
+        subst (λ k. IsGoodPair g move dense s after k q c.0) (sym at) (subst (λ p. IsGoodPair g move dense s after l p c.0) (sym same) (subst (λ (d : PageNo). IsGoodPair g move dense s after l page d.0) is good))
+    | inr differ ↦ good_more move dense s moves after level q c.0 keeps (all level q c has (sym (others q differ) ∙ sent) there used)
   ]
 
   -- a tree without a high unit is its own copy
-  pub good_self : (move : Move S) (dense : ℕ) (s : S) (l least : ℕ) (part : Part) → IsTreeOf g move dense s l least part → AreLow (g.geometry s) dense (units_on (g.unit s) l part.page.0) → IsGoodPair g move dense s l part.page.0 part.page.0
-  good_self move dense s l least part t low = record {
+  pub good_self : (move : Move S) (dense : ℕ) (s : S) (moves : Copies) (l least : ℕ) (part : Part) → IsTreeOf g move dense s l least part → AreLow (g.geometry s) dense (units_on (g.unit s) l part.page.0) → IsSent (g.geometry s) dense (g.unit s) moves l part.page.0
+      → IsGoodPair g move dense s moves l part.page.0 part.page.0
+  good_self move dense s moves l least part t low sent = record {
     sound = record { named = t.named; sized = λ n h. h; bytes = λ n h. refl; shape = λ n h. refl; used = t.used; low = low; still = λ none. refl; stay = low_inside (g.geometry s) dense (g.unit s) l part.page.0 };
     own = each_as (Has move.units) (IsOwn g move.start s move.first move.units) (units_on (g.unit s) l part.page.0) (λ p has. inr (inl has)) t.units;
+    sent = sent;
   }

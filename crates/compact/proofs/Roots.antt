@@ -21,7 +21,7 @@ use Rattle.trees.proofs.Laid.{extends_refl}
 use Rattle.trees.proofs.Over.{all_has}
 use Rattle.trees.proofs.SameUnits.{bytes_same, named_same, shape_same}
 use Rattle.compact.specs.High.{each_once, high_leaves, low_leaves, nodes_above, root_high_leaves, root_low_leaves, root_nodes_above}
-use Rattle.compact.specs.Moved.{Copies, IsMoved, IsOwn, MayMove}
+use Rattle.compact.specs.Moved.{Copies, HasCopy, IsMoved, IsOwn, MayMove}
 use Rattle.compact.specs.Walk.{AreGood, AreLeaves, CanMove, HasLeast, IsGoodPair, IsTreeOf, Move, TreeMoved}
 use Rattle.compact.proofs.Counting.{once_times}
 use Rattle.compact.proofs.Levels.{high_named, high_same, same_level, sub_tree}
@@ -83,9 +83,10 @@ module _ {S : Type 0} (g : ground.Ghosts S) where
         since = extends_refl g s;
         trees = (tree, tt);
         pairs = λ level p copy has sent named used. record {
-          sound = may.sound level p copy has sent named;
+          sound = (may.sound level p copy has sent named).0;
           own = each_as (Has (units_on (g.unit s) level copy.0)) (IsOwn g s s moves units) (units_on (g.unit s) level copy.0)
               (λ q here. inr (inr (record { level = level; page = p; copy = copy; inside = has; sent = sent; named = named; below = here }))) (all_has (units_on (g.unit s) level copy.0));
+          sent = (may.sound level p copy has sent named).1;
         };
         leaves = root_leaves (g.geometry s) dense (g.unit s) (root_at height page size) (spells.named, tt);
         room = record { pages = may.pages; leaves = may.leaves; low = may.low };
@@ -94,14 +95,14 @@ module _ {S : Type 0} (g : ground.Ghosts S) where
   -- each copy of a unit of the tree is good in the end
   good_copies : (old new : S) (dense : ℕ) (moves after : Copies) (move : Move S) (height : ℕ) (page : PageNo) → Extends g old new → move.start ≡ old → IsNamed (g.geometry old) (g.unit old) height page.0 → AreUsed (g.used old) (units_on (g.unit old) height page.0)
       → move.units ≡ units_on (g.unit old) height page.0 → AreGood g move dense new after
-      → (level p : ℕ) (copy : PageNo) → Has (units_on (g.unit old) height page.0) p → after p ≡ Some copy → IsNamed (g.geometry new) (g.unit new) level p → IsGoodPair g move dense new level p copy.0
+      → (level p : ℕ) (copy : PageNo) → Has (units_on (g.unit old) height page.0) p → after p ≡ Some copy → IsNamed (g.geometry new) (g.unit new) level p → IsGoodPair g move dense new after level p copy.0
   good_copies old new dense moves after move height page ext start named used units good = λ level p copy has sent there.
       let sub = sub_tree (g.geometry old) (g.unit old) (λ q. g.used old q ≡ true) height page.0 p named used has in
       let now : IsNamed (g.geometry new) (g.unit new) sub.level p = subst (λ (h : Geometry). IsNamed h (g.unit new) sub.level p) (sym (g.leads_geometry old new ext.leads))
       (named_same (g.geometry old) (g.unit old) (g.unit new) sub.level p (kept_of g old new (units_on (g.unit old) sub.level p) ext sub.all) sub.named) in
       let at : sub.level ≡ level = same_level (g.geometry new) (g.unit new) sub.level level p now there in
       let pair = good sub.level p copy (subst (λ (xs : List ℕ). Has xs p) (sym units) has) sent (subst (λ (s : S). IsNamed (g.geometry s) (g.unit s) sub.level p) (sym start) sub.named) (subst (λ (s : S). AreUsed (g.used s) (units_on (g.unit s) sub.level p)) (sym start) sub.all) in
-      subst (λ k. IsGoodPair g move dense new k p copy.0) at pair
+      subst (λ k. IsGoodPair g move dense new after k p copy.0) at pair
 
   pub root_moved : (old new : S) (dense : ℕ) (moves after : Copies) (height size : ℕ) (page copy : PageNo) → Extends g old new → MayMove g old dense moves (root_at height page size)
       → TreeMoved g (move_of old dense moves (root_at height page size)) dense old new moves after height page.0 copy.0 → IsMoved g old new dense moves after (root_at height page size) (root_at height copy size)
@@ -112,6 +113,7 @@ module _ {S : Type 0} (g : ground.Ghosts S) where
       let tree = tree_later g move dense old new height 2 (part_at page size) ext was in
       let geo : g.geometry new ≡ g.geometry old = g.leads_geometry old new ext.leads in
       let kept = kept_of g old new (units_on (g.unit old) height page.0) ext was.used in
+      let high = high_same (g.geometry old) dense (g.unit old) (g.unit new) height page.0 kept in
       let sound = x.good.sound in
       let copies = good_copies old new dense moves after move height page ext refl was.named was.used refl x.step.pairs in
       let shape : shape_on (g.unit new) height copy.0 size ≡ shape_on (g.unit old) height page.0 size = sound.shape size tree.sized ∙ shape_same (g.unit old) (g.unit new) height page.0 size kept in
@@ -128,14 +130,22 @@ module _ {S : Type 0} (g : ground.Ghosts S) where
         low = sound.low;
         stay =
             let leaves : low_leaves (g.geometry new) dense (g.unit new) height page.0 ≡ root_low_leaves (g.geometry old) dense (g.unit old) (root_at height page size) =
-            ap (λ (h : Geometry). low_leaves h dense (g.unit new) height page.0) geo ∙ (high_same (g.geometry old) dense (g.unit old) (g.unit new) height page.0 kept).low ∙ sym (append-nil (low_leaves (g.geometry old) dense (g.unit old) height page.0)) in
+            ap (λ (h : Geometry). low_leaves h dense (g.unit new) height page.0) geo ∙ high.low ∙ sym (append-nil (low_leaves (g.geometry old) dense (g.unit old) height page.0)) in
             subst (AllByRecursion (Has (units_on (g.unit new) height copy.0))) leaves sound.stay;
         own = x.good.own;
         all = x.step.all;
         copies = x.step.copies;
         fresh = x.step.fresh;
         of_copies = λ level p c has sent named. (copies level p c has sent named).own;
-        sound = λ level p c has sent named. (copies level p c has sent named).sound;
+        sound = λ level p c has sent named. (let good = copies level p c has sent named in (good.sound, good.sent));
+        sent =
+            let leaves : high_leaves (g.geometry new) dense (g.unit new) height page.0 ≡ root_high_leaves (g.geometry old) dense (g.unit old) (root_at height page size) =
+            ap (λ (h : Geometry). high_leaves h dense (g.unit new) height page.0) geo ∙ high.leaves ∙ sym (append-nil (high_leaves (g.geometry old) dense (g.unit old) height page.0)) in
+            subst (AllByRecursion (HasCopy after)) leaves x.good.sent.leaves;
+        above =
+            let nodes : nodes_above (g.geometry new) dense (g.unit new) height page.0 ≡ root_nodes_above (g.geometry old) dense (g.unit old) (root_at height page size) =
+            ap (λ (h : Geometry). nodes_above h dense (g.unit new) height page.0) geo ∙ high.nodes ∙ sym (append-nil (nodes_above (g.geometry old) dense (g.unit old) height page.0)) in
+            subst (AllByRecursion (HasCopy after)) nodes x.good.sent.nodes;
         paid = x.step.paid;
         counts = x.step.counts;
       }

@@ -25,7 +25,7 @@ use Rattle.trees.proofs.Laid.{extends_kept, extends_on, has_left, has_right}
 use Rattle.trees.proofs.Reading.{no_part}
 use Rattle.trees.proofs.Sound.{sound_walk}
 use Rattle.compact.specs.High.{any_of, has_high, nodes_above, high_leaves, low_leaves}
-use Rattle.compact.specs.Moved.{AreLow, Copies, IsOwn}
+use Rattle.compact.specs.Moved.{AreLow, Copies, HasCopy, IsOwn}
 use Rattle.compact.specs.Walk.{AreLeaves, CanMove, HasLeast, IsGoodPair, IsTreeOf, Move, Stepped}
 use Rattle.compact.proofs.Pairs.{each_later, pairs_later, tree_later}
 use Rattle.compact.proofs.Steps.{paid_kept, room_later}
@@ -116,8 +116,8 @@ module _ {S : Type 0} (g : ground.Ghosts S) where
 
   -- ---- a row beside its copies
 
-  -- the copies of a row's trees are as they are
-  pub record RowAs (move : Move S) (dense : ℕ) (s : S) (l : ℕ) (row made : List Part) : Type 0 where
+  -- The copies of a row's trees are as they are, and what these lead to was sent.
+  pub record RowAs (move : Move S) (dense : ℕ) (s : S) (moves : Copies) (l : ℕ) (row made : List Part) : Type 0 where
     pub trees : AreTrees (g.geometry s) (g.unit s) l made
     pub bytes : row_bytes (g.unit s) l made ≡ row_bytes (g.unit s) l row
     pub shape : row_shape (g.unit s) l made ≡ row_shape (g.unit s) l row
@@ -125,16 +125,18 @@ module _ {S : Type 0} (g : ground.Ghosts S) where
     pub low : AreLow (g.geometry s) dense (row_units (g.unit s) l made)
     pub own : AllByRecursion (IsOwn g move.start s move.first move.units) (row_units (g.unit s) l made)
     pub stay : AllByRecursion (Has (row_units (g.unit s) l made)) (flat_map (λ (part : Part). low_leaves (g.geometry s) dense (g.unit s) l part.page.0) row)
+    pub leaves : AllByRecursion (HasCopy moves) (flat_map (λ (part : Part). high_leaves (g.geometry s) dense (g.unit s) l part.page.0) row)
+    pub nodes : AllByRecursion (HasCopy moves) (flat_map (λ (part : Part). nodes_above (g.geometry s) dense (g.unit s) l part.page.0) row)
 
-  pub row_as : (move : Move S) (dense : ℕ) (s : S) (l least : ℕ) (row made : List Part) → AllZip (λ (part copy : Part). IsGoodPair g move dense s l part.page.0 copy.page.0) row made → sizes_of made ≡ sizes_of row
-      → AllByRecursion (IsTreeOf g move dense s l least) row → RowAs move dense s l row made
-  row_as move dense s l least [] [] good sizes trees = record { trees = tt; bytes = refl; shape = refl; used = tt; low = tt; own = tt; stay = tt }
-  row_as move dense s l least [] (copy ∷ made) good sizes trees = absurd good
-  row_as move dense s l least (part ∷ row) [] good sizes trees = absurd good
-  row_as move dense s l least (part ∷ row) (copy ∷ made) good sizes trees =
+  pub row_as : (move : Move S) (dense : ℕ) (s : S) (moves : Copies) (l least : ℕ) (row made : List Part) → AllZip (λ (part copy : Part). IsGoodPair g move dense s moves l part.page.0 copy.page.0) row made → sizes_of made ≡ sizes_of row
+      → AllByRecursion (IsTreeOf g move dense s l least) row → RowAs move dense s moves l row made
+  row_as move dense s moves l least [] [] good sizes trees = record { trees = tt; bytes = refl; shape = refl; used = tt; low = tt; own = tt; stay = tt; leaves = tt; nodes = tt }
+  row_as move dense s moves l least [] (copy ∷ made) good sizes trees = absurd good
+  row_as move dense s moves l least (part ∷ row) [] good sizes trees = absurd good
+  row_as move dense s moves l least (part ∷ row) (copy ∷ made) good sizes trees =
       let size : copy.size ≡ part.size = cc in
       let others : sizes_of made ≡ sizes_of row = cc in
-      let rest = row_as move dense s l least row made good.1 others trees.1 in
+      let rest = row_as move dense s moves l least row made good.1 others trees.1 in
       let sound = good.0.sound in
       let sized = trees.0.sized in
       let bytes : bytes_on (g.unit s) l copy.page.0 copy.size ≡ bytes_on (g.unit s) l part.page.0 part.size = ap (bytes_on (g.unit s) l copy.page.0) size ∙ sound.bytes part.size sized in
@@ -153,4 +155,6 @@ module _ {S : Type 0} (g : ground.Ghosts S) where
             let others = row_units (g.unit s) l made in
             each-append (Has (first ++ others)) here behind (each_as (Has first) (Has (first ++ others)) here (λ p has. has_left first others p has) sound.stay)
             (each_as (Has others) (Has (first ++ others)) behind (λ p has. has_right first others p has) rest.stay);
+        leaves = each-append (HasCopy moves) (high_leaves (g.geometry s) dense (g.unit s) l part.page.0) (flat_map (λ (p : Part). high_leaves (g.geometry s) dense (g.unit s) l p.page.0) row) good.0.sent.leaves rest.leaves;
+        nodes = each-append (HasCopy moves) (nodes_above (g.geometry s) dense (g.unit s) l part.page.0) (flat_map (λ (p : Part). nodes_above (g.geometry s) dense (g.unit s) l p.page.0) row) good.0.sent.nodes rest.nodes;
       }

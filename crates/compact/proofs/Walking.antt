@@ -95,7 +95,7 @@ module _ {S : Type 0} (g : ground.Ghosts S) where
       elim (cases_Bool changed) [
         | inl turned ↦
             let was = each_later g move dense a b m (g.geometry a).fan below both.1.extends (trees_below g move dense a m least part below can.trees.0 x.row.parts) in
-            let rows = row_as g move dense b m (g.geometry a).fan below made both.1.good both.1.sizes was in
+            let rows = row_as g move dense b mid m (g.geometry a).fan below made both.1.good both.1.sizes was in
             node_made g move dense a b c moves mid after m least part below made changed copy both.1 turned y.extends (y.made_new turned m same (record { trees = rows.trees; used = rows.used })) y.keeps here y.others
         | inr still ↦
             let is = y.same still in

@@ -10,7 +10,7 @@ use Rattle.trees.specs.Counted.{Counted, NamesPairs}
 use Rattle.trees.specs.Damage.{IsWhole}
 use Rattle.trees.specs.Made.{AreUsed, Has, IsTaken}
 use Rattle.trees.specs.Trees.{Units, IsNamed, HasSize, bytes_on, shape_on, units_on, RootSpells, root_shape, root_units}
-use Rattle.compact.specs.High.{is_high, has_high, low_leaves, root_nodes_above, root_high_leaves, root_low_leaves, each_once, free_below}
+use Rattle.compact.specs.High.{is_high, has_high, nodes_above, high_leaves, low_leaves, root_nodes_above, root_high_leaves, root_low_leaves, each_once, free_below}
 
 -- the copies of units and nodes, by the numbers that name them
 abbrev pub Copies : Type 0
@@ -19,6 +19,15 @@ Copies = ℕ → Option PageNo
 -- each unit that has a copy keeps it
 abbrev pub KeepsCopies : Copies → Copies → Type 0
 KeepsCopies moves after = (page : ℕ) (copy : PageNo) → moves page ≡ Some copy → after page ≡ Some copy
+
+-- a unit that has a copy
+abbrev pub HasCopy : Copies → ℕ → Type 0
+HasCopy moves page = (copy : PageNo) × (moves page ≡ Some copy)
+
+-- Each high leaf of the tree of a level at a page has a copy, and each node that leads to one.
+pub record IsSent (g : Geometry) (dense : ℕ) (units : Units) (moves : Copies) (level page : ℕ) : Type 0 where
+  pub leaves : AllByRecursion (HasCopy moves) (high_leaves g dense units level page)
+  pub nodes : AllByRecursion (HasCopy moves) (nodes_above g dense units level page)
 
 -- none of the units is high
 abbrev pub AreLow : Geometry → ℕ → List ℕ → Type 0
@@ -38,10 +47,10 @@ pub record IsSoundPair (g : Geometry) (units : Units) (in_use : ℕ → Bool) (d
   pub still : has_high g dense units level page ≡ false → copy ≡ page
   pub stay : AllByRecursion (Has (units_on units level copy)) (low_leaves g dense units level page)
 
--- each copy of a unit of these is sound
+-- Each copy of a unit of these is sound. Where a unit has one, each high leaf of its tree has one too, and each node that leads to one.
 abbrev pub AreSound : {S : Type 0} → ground.Ghosts S → S → ℕ → Copies → List ℕ → Type 0
 AreSound g s dense moves units = (level page : ℕ) (copy : PageNo) → Has units page → moves page ≡ Some copy → IsNamed (g.geometry s) (g.unit s) level page
-    → IsSoundPair (g.geometry s) (g.unit s) (g.used s) dense level page copy.0
+    → IsSoundPair (g.geometry s) (g.unit s) (g.used s) dense level page copy.0 × IsSent (g.geometry s) dense (g.unit s) moves level page
 
 -- ---- what is still to copy
 
@@ -100,7 +109,7 @@ pub record IsPaid {S : Type 0} (g : ground.Ghosts S) (old new : S) (dense : ℕ)
 -- The tree of a root was moved: the new root spells the same bytes in the same shape, over used units that are none of them high. The leaves that weren't high
 -- stay, and for each other one that had no copy one low unit was taken. What was taken are copies, and units of the new tree; its others are units of the old
 -- tree, or of copies that units of the old tree had, and so are those of the copies. Each new copy is one of a unit of the old tree, stands in the new one, and
--- is sound. What new nodes name is counted.
+-- is sound. Each high leaf of the old tree has a copy, and each node above one. What new nodes name is counted.
 pub record IsMoved {S : Type 0} (g : ground.Ghosts S) (old new : S) (dense : ℕ) (moves after : Copies) (root made : Root) : Type 0 where
   pub spells : (bytes : List ℕ) → RootSpells (g.geometry old) (g.unit old) root bytes → RootSpells (g.geometry new) (g.unit new) made bytes
   pub shape : root_shape (g.unit new) made ≡ root_shape (g.unit old) root
@@ -114,5 +123,7 @@ pub record IsMoved {S : Type 0} (g : ground.Ghosts S) (old new : S) (dense : ℕ
   pub of_copies : (level page : ℕ) (copy : PageNo) → Has (root_units (g.unit old) root) page → after page ≡ Some copy → IsNamed (g.geometry new) (g.unit new) level page
       → AllByRecursion (IsOwn g old new moves (root_units (g.unit old) root)) (units_on (g.unit new) level copy.0)
   pub sound : AreSound g new dense after (root_units (g.unit old) root)
+  pub sent : AllByRecursion (HasCopy after) (root_high_leaves (g.geometry old) dense (g.unit old) root)
+  pub above : AllByRecursion (HasCopy after) (root_nodes_above (g.geometry old) dense (g.unit old) root)
   pub paid : IsPaid g old new dense moves after (each_once (root_nodes_above (g.geometry old) dense (g.unit old) root)) (each_once (root_high_leaves (g.geometry old) dense (g.unit old) root))
   pub counts : NamesPairs g → Counted g old new

@@ -17,7 +17,7 @@ use Rattle.trees.specs.Shape.{Subtree, IsHalfFull}
 use Rattle.trees.specs.Trees.{IsNamed, HasSize, shape_on, units_on}
 use Rattle.trees.specs.declared.rows.Part.{Part}
 use Rattle.compact.specs.High.{has_high, nodes_above, high_leaves, free_below}
-use Rattle.compact.specs.Moved.{Copies, IsSoundPair, IsOwn, IsCopyOf, IsPaid, unmoved}
+use Rattle.compact.specs.Moved.{Copies, IsSoundPair, IsSent, IsOwn, IsCopyOf, IsPaid, unmoved}
 
 -- A move of a tree: the state and the copies that it began with, the units of its tree, and the nodes and leaves of it that were to copy.
 pub record Move (S : Type 0) : Type 0 where
@@ -51,16 +51,17 @@ pub record IsTreeOf {S : Type 0} (g : ground.Ghosts S) (move : Move S) (dense : 
   pub nodes : AllByRecursion (Has move.nodes) (nodes_above (g.geometry s) dense (g.unit s) l part.page.0)
   pub leaves : AllByRecursion (Has move.leaves) (high_leaves (g.geometry s) dense (g.unit s) l part.page.0)
 
--- a sound pair, over units that the move may have in its tree
-pub record IsGoodPair {S : Type 0} (g : ground.Ghosts S) (move : Move S) (dense : ℕ) (s : S) (level page copy : ℕ) : Type 0 where
+-- A sound pair, over units that the move may have in its tree. Each high leaf of the tree that has the copy has one too, and each node that leads to one.
+pub record IsGoodPair {S : Type 0} (g : ground.Ghosts S) (move : Move S) (dense : ℕ) (s : S) (moves : Copies) (level page copy : ℕ) : Type 0 where
   pub sound : IsSoundPair (g.geometry s) (g.unit s) (g.used s) dense level page copy
   pub own : AllByRecursion (IsOwn g move.start s move.first move.units) (units_on (g.unit s) level copy)
+  pub sent : IsSent (g.geometry s) dense (g.unit s) moves level page
 
 -- each copy of a tree that stood at the start is good
 abbrev pub AreGood : {S : Type 0} → ground.Ghosts S → Move S → ℕ → S → Copies → Type 0
 AreGood g move dense s moves = (level page : ℕ) (copy : PageNo) → Has move.units page → moves page ≡ Some copy
     → IsNamed (g.geometry move.start) (g.unit move.start) level page → AreUsed (g.used move.start) (units_on (g.unit move.start) level page)
-    → IsGoodPair g move dense s level page copy.0
+    → IsGoodPair g move dense s moves level page copy.0
 
 -- there is room for what is still to copy
 pub record HasRoom {S : Type 0} (g : ground.Ghosts S) (move : Move S) (dense : ℕ) (s : S) (moves : Copies) : Type 0 where
@@ -89,12 +90,12 @@ pub record Stepped {S : Type 0} (g : ground.Ghosts S) (move : Move S) (dense : �
 
 -- A tree gave way to its copy.
 pub record TreeMoved {S : Type 0} (g : ground.Ghosts S) (move : Move S) (dense : ℕ) (old new : S) (moves after : Copies) (l page copy : ℕ) : Type 0 where
-  pub good : IsGoodPair g move dense new l page copy
+  pub good : IsGoodPair g move dense new after l page copy
   pub step : Stepped g move dense old new moves after (units_on (g.unit old) l page) (units_on (g.unit new) l copy)
 
 -- A row of trees gave way to their copies. Where some is another one, the row has a high leaf.
 pub record RowMoved {S : Type 0} (g : ground.Ghosts S) (move : Move S) (dense : ℕ) (old new : S) (moves after : Copies) (l : ℕ) (row made : List Part) (changed : Bool) : Type 0 where
-  pub good : AllZip (λ (part copy : Part). IsGoodPair g move dense new l part.page.0 copy.page.0) row made
+  pub good : AllZip (λ (part copy : Part). IsGoodPair g move dense new after l part.page.0 copy.page.0) row made
   pub step : Stepped g move dense old new moves after (row_units (g.unit old) l row) (row_units (g.unit new) l made)
   pub same : changed ≡ false → made ≡ row
   pub above : changed ≡ true → AnyPart (λ (part : Part). has_high (g.geometry old) dense (g.unit old) l part.page.0 ≡ true) row
