@@ -31,7 +31,7 @@ use Rattle.versions.specs.Versions.{AreInUse, HasVersion, IsTreeUnit, Spells, pl
 use Rattle.versions.proofs.Becoming.{body_on, held_image}
 use Rattle.versions.proofs.FileRows.{edit_stands}
 use Rattle.compact.specs.High.{free_below, root_low_leaves}
-use Rattle.compact.specs.Moved.{AreLow, Copies, IsMoved, IsOwn, IsSoundPair}
+use Rattle.compact.specs.Moved.{AreLow, Copies, IsMoved, IsOwn, IsSent, IsSoundPair}
 use Rattle.volume_moves.specs.Moves.{InstallsRoot}
 use Rattle.packing.specs.Moving.{CopiesAreAway, VersionMoved}
 
@@ -140,10 +140,15 @@ module _ {S : Type 0} (g : ground.Ghosts S) where
         of_copies = λ level page copy inside sent named. subst (λ (u : Units). AllByRecursion (IsOwn g a c moves (root_units (g.unit a) root)) (units_on u level copy.0)) (sym r.put.units)
             (each_as (IsOwn g a m moves (root_units (g.unit a) root)) (IsOwn g a c moves (root_units (g.unit a) root)) (units_on (g.unit m) level copy.0) own_c
             (tree.of_copies level page copy inside sent (subst (λ (u : Units). IsNamed (g.geometry m) u level page) r.put.units (subst (λ (y : Geometry). IsNamed y (g.unit c) level page) same_geometry named))));
-        sound = λ level page copy inside sent named. subst (λ (f : ℕ → Bool). IsSoundPair (g.geometry c) (g.unit c) f dense level page copy.0) (sym r.put.used)
-            (subst (λ (u : Units). IsSoundPair (g.geometry c) u (g.used m) dense level page copy.0) (sym r.put.units)
-            (subst (λ (y : Geometry). IsSoundPair y (g.unit m) (g.used m) dense level page copy.0) (sym same_geometry)
-            (tree.sound level page copy inside sent (subst (λ (u : Units). IsNamed (g.geometry m) u level page) r.put.units (subst (λ (y : Geometry). IsNamed y (g.unit c) level page) same_geometry named)))));
+        sound = λ level page copy inside sent named.
+            let sound = tree.sound level page copy inside sent (subst (λ (u : Units). IsNamed (g.geometry m) u level page) r.put.units (subst (λ (y : Geometry). IsNamed y (g.unit c) level page) same_geometry named)) in (
+              subst (λ (f : ℕ → Bool). IsSoundPair (g.geometry c) (g.unit c) f dense level page copy.0) (sym r.put.used)
+                  (subst (λ (u : Units). IsSoundPair (g.geometry c) u (g.used m) dense level page copy.0) (sym r.put.units)
+                  (subst (λ (y : Geometry). IsSoundPair y (g.unit m) (g.used m) dense level page copy.0) (sym same_geometry) sound.0)),
+              subst (λ (u : Units). IsSent (g.geometry c) dense u after level page) (sym r.put.units) (subst (λ (y : Geometry). IsSent y dense (g.unit m) after level page) (sym same_geometry) sound.1),
+            );
+        sent = tree.sent;
+        above = tree.above;
         paid = record {
           of_pages = omega (arith, tree.paid.of_pages, ap (λ (f : Area → ℕ). f Page) r.put.free);
           of_leaves = omega (arith, tree.paid.of_leaves, ap (λ (f : Area → ℕ). f Segment) r.put.free);
