@@ -79,6 +79,7 @@ module _ {S : Type 0} (g : ground.Ghosts S) where
       };
       installs = λ differ. absurd (differ same);
       stays = λ is. ext;
+      held = ext.held;
     }
 
     -- ---- where the record is written
