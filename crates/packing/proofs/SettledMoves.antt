@@ -376,6 +376,7 @@ module _ {w x : Outside} (old mid : VolumeState) (d : Decoded) (disk : List ℕ)
           ];
           each = working.tree.each;
           sound = sound_final;
+          sent = working.tree.sent;
           between = used_at mid.units;
           kept = λ u used. working.moved.used u used (λ none. none);
           fewer = λ u used. subst (λ (f : ℕ → Bool). f u ≡ true) counts.used (fewer u (subst (λ (us : UnitSet). used_at us u ≡ true) new_units used));

@@ -87,6 +87,7 @@ module _ {w x : Outside} (old new : VolumeState) (d : Decoded) (disk : List ℕ)
     ];
     each = working.tree.each;
     sound = sound_still;
+    sent = working.tree.sent;
     between = used_at new.units;
     kept = λ u used. working.moved.used u used (λ none. none);
     fewer = λ u used. used;

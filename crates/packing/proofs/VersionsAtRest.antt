@@ -41,7 +41,7 @@ use Rattle.volume_moves.specs.Moves.{AreOfOneObject, IsObjectUnit}
 use Rattle.volume_port.specs.State.{IsAtRest}
 use Rattle.volume_port.specs.declared.state.VolumeState.{VolumeState}
 use Rattle.compact.specs.High.{free_below}
-use Rattle.compact.specs.Moved.{Copies, IsSoundPair, MayMove, leaves_left, nodes_left}
+use Rattle.compact.specs.Moved.{Copies, IsSent, IsSoundPair, MayMove, leaves_left, nodes_left}
 use Rattle.packing.specs.Moving.{CopiesAreAway, CopiesAreOwn}
 use Rattle.packing.specs.Resting.{CopyIsOwn, HasOwnCopies, HasRoomFor, IsOwnCopy}
 use Rattle.packing.specs.declared.objects.LargeVersion.{LargeVersion}
@@ -148,7 +148,7 @@ module _ {S : Type 0} (g : ground.Ghosts S) (a : S) (w : Outside) (old : VolumeS
   inside_at : (page : ℕ) → Has (root_units (g.unit a) root) page → Has (root_units A root) page
   inside_at page is = subst (λ (units : Units). Has (root_units units root) page) units_are is
 
-  own_at : (level page : ℕ) (copy : PageNo) → Has (root_units (g.unit a) root) page → moves page ≡ Some copy → IsNamed (g.geometry a) (g.unit a) level page → IsOwnCopy old d disk dense own.stored level page copy
+  own_at : (level page : ℕ) (copy : PageNo) → Has (root_units (g.unit a) root) page → moves page ≡ Some copy → IsNamed (g.geometry a) (g.unit a) level page → IsOwnCopy old d disk dense moves own.stored level page copy
   own_at level page copy inside sent named = own.copies level page copy (inside_at page inside) sent (named_at level page named)
 
   pub copies_away : CopiesAreAway g a moves (root_units (g.unit a) root)
@@ -186,6 +186,9 @@ module _ {S : Type 0} (g : ground.Ghosts S) (a : S) (w : Outside) (old : VolumeS
       (subst (λ (units : Units). IsSoundPair d.geometry units (g.used a) dense level page copy.0) (sym units_are)
       (subst (λ (used : ℕ → Bool). IsSoundPair d.geometry A used dense level page copy.0) (sym over.used) sound))
 
+  sent_at : (level page : ℕ) → IsSent d.geometry dense A moves level page → IsSent (g.geometry a) dense (g.unit a) moves level page
+  sent_at level page sent = subst (λ (x : Geometry). IsSent x dense (g.unit a) moves level page) (sym geometry_is) (subst (λ (units : Units). IsSent d.geometry dense units moves level page) (sym units_are) sent)
+
   free_is : (area : Area) → g.free a area ≡ free_count old.geometry (used_at old.units) area
   free_is area = ap (λ (free : Area → ℕ). free area) over.free ∙ ap (λ (x : Geometry). free_count x (used_at old.units) area) rests.ready.fits.counted.geometry
 
@@ -201,7 +204,7 @@ module _ {S : Type 0} (g : ground.Ghosts S) (a : S) (w : Outside) (old : VolumeS
       record {
         whole = whole;
         used = each_as (IsTreeUnit g a) (λ p. g.used a p ≡ true) (root_units (g.unit a) root) (λ p is. is.0) tree_units;
-        sound = λ level page copy inside sent named. sound_at level page copy (own_at level page copy inside sent named).sound;
+        sound = λ level page copy inside sent named. (let own = own_at level page copy inside sent named in (sound_at level page copy own.sound, sent_at level page own.sent));
         pages = omega (arith, nodes, room.pages, free_is Page);
         leaves = omega (arith, leaves, room.leaves, few_low d.geometry (used_at old.units) dense room.low, segs, free_is Segment);
         low = omega (arith, leaves, room.leaves, low);

@@ -50,7 +50,8 @@ use Rattle.volume_port.specs.declared.state.VolumeState.{VolumeState}
 use Rattle.volume_port.proofs.Staying.{stands_meanwhile, stays_on}
 use Rattle.volume_port.proofs.WorkingUnits.{image_is, no_image}
 use Rattle.compact.specs.High.{each_once, root_high_leaves, root_low_leaves, root_nodes_above}
-use Rattle.compact.specs.Moved.{AreLow, Copies, IsOwn, IsSoundPair, unmoved}
+use Rattle.compact.specs.Moved.{AreLow, Copies, HasCopy, IsOwn, IsSent, IsSoundPair, unmoved}
+use Rattle.compact.proofs.Pairs.{kept_back, sent_same}
 use Rattle.packing.specs.Moving.{VersionMoved}
 use Rattle.packing.specs.Resting.{HasOwnCopies}
 use Rattle.packing.specs.Working.{MovesWorking, TreeMoved, WorkingMoved}
@@ -212,9 +213,6 @@ module _ {S : Type 0} (g : ground.Ghosts S) (a b : S) {w x : Outside} (old new :
   leaves_are : leaves (g.geometry a) (g.unit a) ≡ leaves d.geometry A
   leaves_are = ap (λ (y : Geometry). leaves y (g.unit a)) a_geometry ∙ ap (leaves d.geometry) a_units
 
-  abbrev Sent : ℕ → Type 0
-  Sent page = (copy : PageNo) × (after page ≡ Some copy)
-
   pub tree : TreeMoved d.geometry dense (catalog_no ∷ file_pages v) A H old new moves after root made
   tree = record {
     named = its_tree.spells.named;
@@ -232,13 +230,17 @@ module _ {S : Type 0} (g : ground.Ghosts S) (a b : S) {w x : Outside} (old new :
       | inl before ↦ inl before
       | inr both ↦ inr (subst (λ (units : Units). Has (root_units units root) page) a_units both.0, subst (λ (units : Units). Has (root_units units made) copy.0) b_units both.1)
     ];
-    each = subst (λ (y : Geometry). AllByRecursion Sent (root_high_leaves y dense A root)) a_geometry
-        (subst (λ (units : Units). AllByRecursion Sent (root_high_leaves (g.geometry a) dense units root)) a_units did.tree.sent);
+    each = subst (λ (y : Geometry). AllByRecursion (HasCopy after) (root_high_leaves y dense A root)) a_geometry
+        (subst (λ (units : Units). AllByRecursion (HasCopy after) (root_high_leaves (g.geometry a) dense units root)) a_units did.tree.sent);
     sound = λ level page copy inside sent named.
         subst (λ (y : Geometry). IsSoundPair y H (used_at new.units) dense level page copy.0) b_geometry
         (subst (λ (units : Units). IsSoundPair (g.geometry b) units (used_at new.units) dense level page copy.0) b_units
         (subst (λ (used : ℕ → Bool). IsSoundPair (g.geometry b) (g.unit b) used dense level page copy.0) later_over.used
-        (did.tree.sound level page copy (inside_port page inside) sent (named_later level page inside named))));
+        (did.tree.sound level page copy (inside_port page inside) sent (named_later level page inside named)).0));
+    sent = λ level page copy inside sent named.
+        let kept = under_root d.geometry A (λ u. H u ≡ A u) root its_tree.spells.named root_kept level page inside named in
+        let there = (did.tree.sound level page copy (inside_port page inside) sent (named_later level page inside named)).1 in
+        sent_same d.geometry dense H A after level page (kept_back A H level page kept) (subst (λ (y : Geometry). IsSent y dense H after level page) b_geometry (subst (λ (units : Units). IsSent (g.geometry b) dense units after level page) b_units there));
     copies_apart = λ level page copy inside sent named.
         subst (λ (units : Units). AllByRecursion (λ u. Contains (catalog_no ∷ file_pages v) u → ⊥) (units_on units level copy.0)) b_units
         (each_as (IsOwn g a b moves (root_units (g.unit a) root)) (λ u. Contains (catalog_no ∷ file_pages v) u → ⊥) (units_on (g.unit b) level copy.0) copy_apart

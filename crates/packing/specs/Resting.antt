@@ -10,7 +10,7 @@ use Rattle.object_records.specs.Record.{Large}
 use Rattle.page_alloc.specs.UnitSet.{free_count, used_at}
 use Rattle.trees.specs.Made.{AreUsed, Has}
 use Rattle.trees.specs.Trees.{IsNamed, root_units, units_on}
-use Rattle.compact.specs.Moved.{Copies, IsSoundPair, nodes_left, leaves_left, unmoved}
+use Rattle.compact.specs.Moved.{Copies, HasCopy, IsSent, IsSoundPair, nodes_left, leaves_left, unmoved}
 use Rattle.compact.specs.High.{each_once, free_below, root_high_leaves, root_low_leaves, root_nodes_above}
 use Rattle.volume_model.specs.Volume.{Decoded, Stored, file_pages, oid_of, stored_in, table_of, units_of}
 use Rattle.volume_moves.specs.Moves.{IsOfNoOther}
@@ -49,10 +49,11 @@ pub record IsStartOf (d : Decoded) (disk : List ℕ) (start : Start) : Type 0 wh
 abbrev pub CopyIsOwn : Decoded → List ℕ → Stored → ℕ → Type 0
 CopyIsOwn d disk s unit = IsOfNoOther (units_of d disk) d.volume s.place unit × (Contains (catalog_no ∷ file_pages d.volume) unit → ⊥)
 
--- The copy of a unit of the tree of a record is sound, and over units of its object alone.
-pub record IsOwnCopy (volume : VolumeState) (d : Decoded) (disk : List ℕ) (dense : ℕ) (s : Stored) (level page : ℕ) (copy : PageNo) : Type 0 where
+-- The copy of a unit of the tree of a record is sound, and over units of its object alone. What the unit's tree leads to was sent.
+pub record IsOwnCopy (volume : VolumeState) (d : Decoded) (disk : List ℕ) (dense : ℕ) (moves : Copies) (s : Stored) (level page : ℕ) (copy : PageNo) : Type 0 where
   pub sound : IsSoundPair d.geometry (units_of d disk) (used_at volume.units) dense level page copy.0
   pub own : AllByRecursion (CopyIsOwn d disk s) (units_on (units_of d disk) level copy.0)
+  pub sent : IsSent d.geometry dense (units_of d disk) moves level page
 
 -- The record is of a large version with this root, and the copies of the units of its tree are sound and its object's own.
 pub record HasOwnCopies (volume : VolumeState) (d : Decoded) (disk : List ℕ) (dense : ℕ) (moves : Copies) (version : LargeVersion) : Type 0 where
@@ -61,7 +62,7 @@ pub record HasOwnCopies (volume : VolumeState) (d : Decoded) (disk : List ℕ) (
   pub oid : oid_of stored ≡ version.oid
   pub large : stored.body.content ≡ Large version.root
   pub copies : (level page : ℕ) (copy : PageNo) → Has (root_units (units_of d disk) version.root) page → moves page ≡ Some copy
-      → IsNamed d.geometry (units_of d disk) level page → IsOwnCopy volume d disk dense stored level page copy
+      → IsNamed d.geometry (units_of d disk) level page → IsOwnCopy volume d disk dense moves stored level page copy
 
 -- There is room for what is still to copy of a tree: free pages for its nodes, and low free units for its leaves.
 pub record HasRoomFor (volume : VolumeState) (d : Decoded) (disk : List ℕ) (dense : ℕ) (moves : Copies) (root : Root) : Type 0 where
@@ -104,10 +105,11 @@ pub record MovesVersion (w : Outside) (old new : VolumeState) (d : Decoded) (dis
   -- the copies
   pub fresh : (page : ℕ) (copy : PageNo) → after page ≡ Some copy
       → (moves page ≡ Some copy) ⊎ (Has (root_units (units_of d disk) version.root) page × Has (root_units (units_of again.decoded again.image) made) copy.0)
-  pub each : AllByRecursion (λ page. (copy : PageNo) × (after page ≡ Some copy)) (root_high_leaves d.geometry dense (units_of d disk) version.root)
+  pub each : AllByRecursion (HasCopy after) (root_high_leaves d.geometry dense (units_of d disk) version.root)
   pub sound : (level page : ℕ) (copy : PageNo) → Has (root_units (units_of d disk) version.root) page → after page ≡ Some copy → IsNamed d.geometry (units_of d disk) level page
       → (in_use : ℕ → Bool) → AreUsed in_use (units_on (units_of again.decoded again.image) level copy.0)
       → IsSoundPair d.geometry (units_of again.decoded again.image) in_use dense level page copy.0
+  pub sent : (level page : ℕ) (copy : PageNo) → Has (root_units (units_of d disk) version.root) page → after page ≡ Some copy → IsNamed d.geometry (units_of d disk) level page → IsSent d.geometry dense (units_of d disk) after level page
   -- what is in use between the move and the release
   pub between : ℕ → Bool
   pub kept : (u : ℕ) → used_at old.units u ≡ true → between u ≡ true

@@ -15,7 +15,7 @@ use Rattle.trees.specs.Made.{AreUsed, Has}
 use Rattle.trees.specs.Owners.{IsOwned, root_pages}
 use Rattle.trees.specs.Trees.{IsNamed, RootNamed, Units, root_units, units_on}
 use Rattle.compact.specs.High.{each_once, root_high_leaves, root_low_leaves, root_nodes_above}
-use Rattle.compact.specs.Moved.{AreLow, Copies, IsSoundPair, unmoved}
+use Rattle.compact.specs.Moved.{AreLow, Copies, HasCopy, IsSent, IsSoundPair, unmoved}
 use Rattle.volume_model.specs.Homes.{home}
 use Rattle.volume_model.specs.Parts.{HoldsOf, content_parts}
 use Rattle.volume_model.specs.Shown.{working_units}
@@ -40,8 +40,9 @@ pub record TreeMoved (g : Geometry) (dense : ℕ) (pages : List ℕ) (before lat
   pub taken : (u : ℕ) → used_at old.units u ≡ false → used_at new.units u ≡ true → Has (root_units later made) u
   pub stays : (u : ℕ) → used_at old.units u ≡ true → later u ≡ before u
   pub fresh : (page : ℕ) (copy : PageNo) → after page ≡ Some copy → (moves page ≡ Some copy) ⊎ (Has (root_units before root) page × Has (root_units later made) copy.0)
-  pub each : AllByRecursion (λ page. (copy : PageNo) × (after page ≡ Some copy)) (root_high_leaves g dense before root)
+  pub each : AllByRecursion (HasCopy after) (root_high_leaves g dense before root)
   pub sound : (level page : ℕ) (copy : PageNo) → Has (root_units before root) page → after page ≡ Some copy → IsNamed g before level page → IsSoundPair g later (used_at new.units) dense level page copy.0
+  pub sent : (level page : ℕ) (copy : PageNo) → Has (root_units before root) page → after page ≡ Some copy → IsNamed g before level page → IsSent g dense before after level page
   pub copies_apart : (level page : ℕ) (copy : PageNo) → Has (root_units before root) page → after page ≡ Some copy → IsNamed g before level page
       → AllByRecursion (λ u. Contains pages u → ⊥) (units_on later level copy.0)
   pub of_pages : free_count old.geometry (used_at old.units) Page + unmoved after (each_once (root_nodes_above g dense before root)) ≤ free_count old.geometry (used_at new.units) Page + unmoved moves (each_once (root_nodes_above g dense before root))
