@@ -25,6 +25,10 @@ HALF = joined(head(4, 7, 2, 1, 0, 10), leaf(("62", 300)), file("a", 2),
 """A frozen version of 300 bytes, one derived from it that has 256 of them, and a small one."""
 
 
+BEING_MADE = ".exsm-new-"
+"""What a volume is called while `format` makes it: one that is killed may leave it."""
+
+
 class StreamToolTest(InFolder):
     """Streams that no program is needed for."""
 
@@ -208,8 +212,8 @@ class BackupTest(InFolder):
         self.assertEqual(sorted(os.listdir()), ["b", "v"])
 
 
-class NoDumpTest(InFolder):
-    """A program that has no `dump`, or writes none."""
+class WithOtherProgram(InFolder):
+    """A folder in which another program may stand in exsm's place."""
 
     def program(self, text: str) -> None:
         """Puts a program in exsm's place."""
@@ -218,6 +222,10 @@ class NoDumpTest(InFolder):
         before = os.environ["EXSM"]
         os.environ["EXSM"] = str(self.folder / "program")
         self.addCleanup(os.environ.__setitem__, "EXSM", before)
+
+
+class NoDumpTest(WithOtherProgram):
+    """A program that has no `dump`, or writes none."""
 
     def test_usage(self) -> None:
         """a program without `dump` makes no backup"""
@@ -246,16 +254,8 @@ class NoDumpTest(InFolder):
         self.assertEqual(Path("b").read_bytes(), ONE)
 
 
-class RestoreTest(InFolder):
+class RestoreTest(WithOtherProgram):
     """Volumes made of dumps, by a program that notes how it is called, and by exsm itself."""
-
-    def program(self, text: str) -> None:
-        """Puts a program in exsm's place."""
-        Path("program").write_text(f"#!/bin/sh\n{text}\n", encoding="ascii")
-        os.chmod("program", 0o755)
-        before = os.environ["EXSM"]
-        os.environ["EXSM"] = str(self.folder / "program")
-        self.addCleanup(os.environ.__setitem__, "EXSM", before)
 
     def test_calls(self) -> None:
         """a volume of the sizes that a dump needs, a third of them free, is made and loaded"""
@@ -334,4 +334,5 @@ class RestoreTest(InFolder):
             else:
                 self.assertNotEqual(status, 0)
         self.assertEqual(self.tool("exsm_backup", "--restore", "b", "w").status, 0)
-        self.assertEqual(sorted(os.listdir()), ["b", "v", "w"])
+        names = [name for name in os.listdir() if not name.startswith(BEING_MADE)]
+        self.assertEqual(sorted(names), ["b", "v", "w"])
