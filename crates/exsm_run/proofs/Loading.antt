@@ -3,8 +3,8 @@ use Rattle.std.proofs.Common.{◌≡◌, ◌≢◌, ◌∙◌, ◌⊎◌, ⊎_el
 use Rattle.std.proofs.lemmas.Option.{same_Some}
 use Rattle.ex_base.specs.declared.geometry.Geometry.{Geometry}
 use Rattle.ex_base.specs.declared.names.Area.TheVariants.{Page}
-use Rattle.disk_model.specs.Outside.{Outside, Adds, Along, Between, DiskOnly, IsWorld, Leaves, ReadsOnly, Rose, SinkOnly, Stands}
-use Rattle.disk_model.specs.Runs.{adds_both, adds_trans, adds_wider, along_disk, along_sink, along_start, disk_trans, each_on, goes_trans, honest_on, leaves_quiet, leaves_trans, leaves_wider}
+use Rattle.disk_model.specs.Outside.{Outside, Adds, Along, Between, DiskOnly, Goes, IsWorld, Leaves, ReadsOnly, Rose, SinkOnly, Stands}
+use Rattle.disk_model.specs.Runs.{adds_both, adds_trans, adds_wider, along_disk, along_sink, along_start, disk_trans, each_on, goes_trans, honest_on, leaves_quiet, leaves_trans, leaves_wider, told_value}
 use Rattle.table_model.specs.declared.table.Table.{Table}
 use Rattle.table_model.specs.Tables.{empty_table, versions_of}
 use Rattle.session_views.specs.declared.part.Part.{Part}
@@ -33,7 +33,7 @@ use Rattle.history_load.specs.Staying.{StaysEmpty}
 use Rattle.command_line.specs.declared.status.Status.{Status}
 use Rattle.command_line.specs.declared.status.Status.TheVariants as status
 use Rattle.exsm_run.specs.Check.{HoldsCounted, IsLineStatus, StopsCount, unopened_status}
-use Rattle.exsm_run.specs.Load.{DecidesOn, HoldsTableNow, IsLoadMoment, IsLoadRefusal, IsLoadStatus, IsLoadable, IsLoaded, IsLoadedImage, IsStopped, IsVerdict, LoadPromise, MayLoad, load_line, unloaded_status}
+use Rattle.exsm_run.specs.Load.{DecidesOn, HoldsTableNow, IsLoadMoment, IsLoadRefusal, IsLoadStatus, IsLoadable, IsLoaded, IsLoadedImage, IsStopped, IsVerdict, KeepsTable, LoadPromise, MayLoad, StopsBefore, load_line, unloaded_status}
 use Rattle.exsm_run.specs.Openings.{OpeningPromise, RestsWith}
 use Rattle.exsm_run.specs.Script.{HoldsVolume, IsOnVolume}
 use Rattle.exsm_run.proofs.Checking.{SentLine, line_ends, line_good}
@@ -86,14 +86,20 @@ one_kind : (s : Status) → (s ≡ status.DiskFault) ⊎ (s ≡ status.Memory) �
 one_kind s (inl is) = ((λ other. cc), (λ other. cc), (λ other. cc))
 one_kind s (inr is) = ((λ other. cc), (λ other. cc), (λ other. cc))
 
+-- Where a crash now leaves the table, the disk holds it.
+held_now : {a b : Outside} {table : Table} {was : List ℕ} → IsWorld b → Goes a b → HoldsVolume a table was → Leaves a b (λ d. StandsFor d table) → HoldsTableNow b table
+held_now {a} {b} world goes on leaves =
+    let held = told_value b.disk (goes.disk_told ∙ ap is_some on.holds) in
+    (held.0, held.1, leaves.now held.0 (world.held_may_stay held.0 held.1))
+
 -- It is no more than may be taken of any stream, where nothing is.
 none_drawn : (stream : List ℕ) → IsDrawn stream 0
 none_drawn stream = record { headed = λ head is. omega arith; headless = λ other. omega arith }
 
 -- What was read and written of the disk alone, and ended so on every volume, keeps the promise.
-pub load_unbegun : {a b : Outside} (s : Status) → IsWorld a → DiskOnly a b → ((table : Table) (was : List ℕ) → HoldsVolume a table was → IsRefused b s table ⊎ IsCutShort a b s)
+pub load_unbegun : {a b : Outside} (s : Status) → IsWorld a → IsWorld b → DiskOnly a b → ((table : Table) (was : List ℕ) → HoldsVolume a table was → IsRefused b s table ⊎ IsCutShort a b s)
     → ((image : List ℕ) → IsTrue a.honest → a.disk ≡ Some image → Leaves a b (StandsOpening meant a.images image)) → OpeningPromise a b s → LoadPromise a b s
-load_unbegun {a} {b} s world only kinds moments opening =
+load_unbegun {a} {b} s world ended only kinds moments opening =
     let kept : (table : Table) (was : List ℕ) → IsOnVolume a table was → Leaves a b (λ d. StandsFor d table) =
     λ table was on. let starts = starts_on on in leaves_table starts (moments starts.on.image starts.on.honest starts.on.holds) in
     let cut : (was : List ℕ) → HoldsVolume a empty_table was → IsCutShort a b s =
@@ -106,6 +112,7 @@ load_unbegun {a} {b} s world only kinds moments opening =
       front = λ was stream on left is. absurd ((one_kind s (without_rise a b s (cut was on))).1 is);
       nothing = λ done output. only.sent;
       refuses = λ refusal table was on. ⊎_elim (λ (refused : IsRefused b s table). refused.2) (λ (short : IsCutShort a b s). absurd (no_refusal s (without_rise a b s short) refusal)) (kinds table was on);
+      kept = λ stops table was on. held_now ended only.goes on.on (kept table was on);
       moments_kept = λ table was which on. kept table was on;
       moments = λ table was stream on left. along_opening table was stream world on only (kept table was on);
       moments_pending = λ table was stream on left. leaves_wider (StandsOpening meant a.images on.image) (λ d. StandsOpening meant a.images on.image d ⊎ IsLoadedImage stream d)
@@ -118,11 +125,11 @@ load_unbegun {a} {b} s world only kinds moments opening =
     }
 
 -- The volume wasn't opened.
-pub load_unopened : {a b : Outside} (s : Status) → IsWorld a → DiskOnly a b → StopsCount s a b
+pub load_unopened : {a b : Outside} (s : Status) → IsWorld a → IsWorld b → DiskOnly a b → StopsCount s a b
     → ((table : Table) (was : List ℕ) → HoldsVolume a table was → (s ≡ status.DiskFault) ⊎ (s ≡ status.Memory))
     → ((image : List ℕ) → IsTrue a.honest → a.disk ≡ Some image → Leaves a b (StandsOpening meant a.images image)) → OpeningPromise a b s → LoadPromise a b s
-load_unopened {a} {b} s world only stops kinds moments opening =
-    load_unbegun s world only
+load_unopened {a} {b} s world ended only stops kinds moments opening =
+    load_unbegun s world ended only
     (λ table was on. inr (⊎_elim (λ disk. inl (disk, subst (λ (x : Status). StopsCount x a b) disk stops)) (λ memory. inr memory) (kinds table was on)))
     moments opening
 
@@ -178,15 +185,15 @@ module _ {a b c : Outside} {volume : VolumeState} (looking : Looking a b c volum
   part_fine open_fault.Disk part fine is = cc
   part_fine (open_fault.BadVolume p) part fine is = fine p refl
 
-  pub load_unread : (f : OpenFault) → (f ≡ open_fault.Disk → Rose b.disk_faults c.disk_faults) → ((part : Part) → f ≡ open_fault.BadVolume part → ⊥) → LoadPromise a c (unopened_status f)
-  load_unread f disk fine =
-      load_unbegun (unopened_status f) looking.world looked_only (λ table was on. inr (cut_short f disk fine)) looked_moments
+  pub load_unread : IsWorld c → (f : OpenFault) → (f ≡ open_fault.Disk → Rose b.disk_faults c.disk_faults) → ((part : Part) → f ≡ open_fault.BadVolume part → ⊥) → LoadPromise a c (unopened_status f)
+  load_unread ended f disk fine =
+      load_unbegun (unopened_status f) looking.world ended looked_only (λ table was on. inr (cut_short f disk fine)) looked_moments
       (opened_well (unopened_status f) (λ part is. part_fine f part fine is) looking.stood)
 
   module _ (empty : Bool) (tells : (d : Decoded) (image : List ℕ) → IsAtRest b volume d image → IsTrue empty ↔ (table_of (units_of d image) d.volume ≡ empty_table)) where
-    pub load_refused : empty ≡ false → LoadPromise a c status.NotEmpty
-    load_refused other =
-        load_unbegun status.NotEmpty looking.world looked_only
+    pub load_refused : IsWorld c → empty ≡ false → LoadPromise a c status.NotEmpty
+    load_refused ended other =
+        load_unbegun status.NotEmpty looking.world ended looked_only
         (λ table was on.
         let at = looking.rests table was on in
         inl (
@@ -315,9 +322,11 @@ good_status (fault.Stream head_fault.Bad) = tt
 good_status (fault.Stream (head_fault.Misfit m)) = tt
 good_status (fault.Stream (head_fault.NoRoom l)) = tt
 
--- what is refused is no fault of the disk
-refusing : (f : LoadFault) → IsLoadRefusal (unloaded_status f) → f ≡ fault.Disk → ⊥
-refusing f refusal is = subst (λ (x : LoadFault). IsLoadRefusal (unloaded_status x)) is refusal
+-- what leaves the table is no fault of the disk
+keeping : (f : LoadFault) → KeepsTable (unloaded_status f) → f ≡ fault.Disk → ⊥
+keeping f (inl refusal) is = subst (λ (x : LoadFault). IsLoadRefusal (unloaded_status x)) is refusal
+keeping f (inr (inl source)) is = let e : status.DiskFault ≡ status.ScriptFault = sym (ap unloaded_status is) ∙ source in cc
+keeping f (inr (inr memory)) is = let e : status.DiskFault ≡ status.Memory = sym (ap unloaded_status is) ∙ memory in cc
 
 ends_unloaded : (a c d : Outside) (f : LoadFault) → DiskOnly a c → LoadCause c d f → (Rose a.read_faults d.read_faults → ⊥) → (Rose a.disk_faults d.disk_faults → ⊥)
     → ((h : HeadFault) → f ≡ fault.Stream h → ⊥) → (unloaded_status f ≡ status.Done) ⊎ (unloaded_status f ≡ status.Memory)
@@ -384,16 +393,16 @@ module _ {a c d : Outside} {volume : VolumeState} (f : LoadFault) (taking : Taki
         verdict = subst (λ (x : LoadFault). IsVerdict volume.geometry stream (unloaded_status x)) (sym is) (verdict_of volume.geometry stream h (refused_on was stream on left h is));
       }
 
-  stays_table : IsLoadRefusal (unloaded_status f) → (table : Table) (was : List ℕ) → HoldsVolume a table was → HoldsTableNow d table
-  stays_table refusal table was on =
-      let now = still_empty taking table was on (kept (refusing f refusal)) in
+  stays_table : KeepsTable (unloaded_status f) → (table : Table) (was : List ℕ) → HoldsVolume a table was → HoldsTableNow d table
+  stays_table keeps table was on =
+      let now = still_empty taking table was on (kept (keeping f keeps)) in
       (now.image, now.holds, subst (StandsFor now.image) (sym (taking.empty table was on).0) now.stands)
 
-  stays_along : IsLoadRefusal (unloaded_status f) → (table : Table) (was : List ℕ) → IsOnVolume a table was → Leaves a d (λ e. StandsFor e table)
-  stays_along refusal table was on =
+  stays_along : KeepsTable (unloaded_status f) → (table : Table) (was : List ℕ) → IsOnVolume a table was → Leaves a d (λ e. StandsFor e table)
+  stays_along keeps table was on =
       let starts = starts_on on in
       let here = taking.empty table was on.on in
-      let later = kept (refusing f refusal) here.1.0 here.1.1 here.1.2 here.1.3 in
+      let later = kept (keeping f keeps) here.1.0 here.1.1 here.1.2 here.1.3 in
       leaves_trans (λ e. StandsFor e table) (leaves_table starts (taking.moments starts.on.image starts.on.honest starts.on.holds))
       (subst (λ (t : Table). Leaves c d (λ e. StandsFor e t)) (sym here.0) later.4)
 
@@ -413,8 +422,9 @@ module _ {a c d : Outside} {volume : VolumeState} (f : LoadFault) (taking : Taki
     loads = λ was stream on left is. absurd ((other_status f).0 is);
     front = λ was stream on left is. absurd ((other_status f).1 is);
     nothing = λ done output. taking.takes.sent ∙ taking.only.sent;
-    refuses = stays_table;
-    moments_kept = λ table was which on. ⊎_elim (λ refusal. stays_along refusal table was on) (λ other. absurd (other (taking.empty table was on.on).0)) which;
+    refuses = λ refusal. stays_table (inl refusal);
+    kept = λ stops table was on. stays_table (inr stops) table was on.on;
+    moments_kept = λ table was which on. ⊎_elim (λ keeps. stays_along keeps table was on) (λ other. absurd (other (taking.empty table was on.on).0)) which;
     moments = taken_so_far taking;
     moments_pending = pending_so_far taking;
     draws = drawn taking;
@@ -462,6 +472,15 @@ line_no_refusal (status.Misfit field dump volume) kind refusal = kind
 line_no_refusal (status.NoRoom area need free) kind refusal = kind
 line_no_refusal (status.NoPages need free) kind refusal = refusal
 
+-- Where the line is sent, or can't be, the table isn't left.
+line_stops : (s : Status) → IsLineStatus s → s ≢ status.Memory → StopsBefore s → ⊥
+line_stops s kind other (inl source) = subst IsLineStatus source kind
+line_stops s kind other (inr memory) = other memory
+
+line_keeps : (s : Status) → IsLineStatus s → s ≢ status.Memory → KeepsTable s → ⊥
+line_keeps s kind other (inl refusal) = line_no_refusal s kind refusal
+line_keeps s kind other (inr stops) = line_stops s kind other stops
+
 line_not_empty : (s : Status) → IsLineStatus s → s ≡ status.NotEmpty → ⊥
 line_not_empty s kind is = subst IsLineStatus is kind
 
@@ -477,6 +496,7 @@ pub record Loading (a c d e : Outside) (volume : VolumeState) (totals : Totals) 
       → (holds : HoldsDump d volume.geometry stream totals.leaves) × (totals.versions ≡ length (versions_of holds.table))
   pub fits : (stream : List ℕ) → c.left ≡ Some stream → (head : StreamHead) → HasHead stream head → lack_of (volume.geometry.pages - 1) volume.geometry.segs head ≡ None
   pub sent : SentLine s d e (load_line totals.versions totals.leaves)
+  pub made : s ≢ status.Memory
 
 module _ {a c d e : Outside} {volume : VolumeState} {totals : Totals} (s : Status) (loading : Loading a c d e volume totals s) where
   -- the loaded volume
@@ -574,7 +594,8 @@ module _ {a c d e : Outside} {volume : VolumeState} {totals : Totals} (s : Statu
     );
     nothing = λ done output. loading.sent.nothing done output ∙ (loading.taking.takes.sent ∙ loading.taking.only.sent);
     refuses = λ refusal. absurd (line_no_refusal s loading.sent.kind refusal);
-    moments_kept = λ table was which on. ⊎_elim (λ refusal. absurd (line_no_refusal s loading.sent.kind refusal)) (λ other. absurd (other (loading.taking.empty table was on.on).0)) which;
+    kept = λ stops. absurd (line_stops s loading.sent.kind loading.made stops);
+    moments_kept = λ table was which on. ⊎_elim (λ keeps. absurd (line_keeps s loading.sent.kind loading.made keeps)) (λ other. absurd (other (loading.taking.empty table was on.on).0)) which;
     moments = moments_sent;
     moments_pending = λ table was stream on left.
         leaves_sink (λ image. StandsOpening meant a.images on.image image ⊎ IsLoadedImage stream image) loading.world (pending_so_far loading.taking table was stream on left) loading.sent.only;

@@ -148,6 +148,14 @@ IsLoadRefusal (Misfit field dump volume) = ⊤
 IsLoadRefusal (NoRoom area need free) = ⊤
 IsLoadRefusal (NoPages need free) = ⊥
 
+-- those that stop it before the stream is loaded, though not by the disk
+abbrev pub StopsBefore : Status → Type 0
+StopsBefore status = (status ≡ ScriptFault) ⊎ (status ≡ Memory)
+
+-- those that leave the volume's table
+abbrev pub KeepsTable : Status → Type 0
+KeepsTable status = IsLoadRefusal status ⊎ StopsBefore status
+
 -- A fault of the outside, whose count rose, or want of memory stopped it.
 abbrev pub IsStopped : Outside → Outside → Status → Type 0
 IsStopped before after Done = ⊥
@@ -191,9 +199,11 @@ pub record LoadPromise (before after : Outside) (status : Status) : Type 0 where
   pub loads : (was stream : List ℕ) → HoldsVolume before empty_table was → before.left ≡ Some stream → status ≡ Done → SendsLoaded stream was after
   pub front : (was stream : List ℕ) → HoldsVolume before empty_table was → before.left ≡ Some stream → status ≡ OutputFault → SendsLoadedPart stream was after
   pub nothing : status ≢ Done → status ≢ OutputFault → after.sent ≡ before.sent
-  -- A refusal leaves the table as it is, and no moment of it leaves another one; nor does any load into a volume that isn't empty.
+  -- A refusal leaves the table as it is; so do, with nothing pending at entry, a fault of the source and want of memory. No moment of these leaves another one, nor
+  -- does any of a load into a volume that isn't empty.
   pub refuses : IsLoadRefusal status → (table : Table) (was : List ℕ) → HoldsVolume before table was → HoldsTableNow after table
-  pub moments_kept : (table : Table) (was : List ℕ) → IsLoadRefusal status ⊎ (table ≢ empty_table) → IsOnVolume before table was → Leaves before after (λ d. StandsFor d table)
+  pub kept : StopsBefore status → (table : Table) (was : List ℕ) → IsOnVolume before table was → HoldsTableNow after table
+  pub moments_kept : (table : Table) (was : List ℕ) → KeepsTable status ⊎ (table ≢ empty_table) → IsOnVolume before table was → Leaves before after (λ d. StandsFor d table)
   -- A crash at any moment leaves the table at entry or the loaded one, and the loaded one once a byte of the line was sent.
   pub moments : (table : Table) (was stream : List ℕ) → IsOnVolume before table was → before.left ≡ Some stream → Along before after (IsLoadMoment table stream was)
   -- Where something is pending at entry, a crash may leave too what one in an opening may leave.

@@ -1,5 +1,5 @@
 //! A stream that is loaded into an empty volume.
-ghost use Rattle.std.specs.Prelude.{◌≡◌, ◌≢◌, IfOk, string_bytes};
+ghost use Rattle.std.specs.Prelude.{◌≡◌, ◌≢◌};
 ghost use Rattle.disk_model.specs.Outside.{Goes, Rose};
 ghost use Rattle.ex_base.specs.declared.names.PageNo.{PageNo};
 ghost use Rattle.ex_base.specs.declared.faults.Seen.{Seen};
@@ -8,10 +8,15 @@ ghost use Rattle.exsm_run.specs.Status.{IsRefusal};
 
 use crate::opening::{opened, status_unopened};
 use crate::status::Status;
+use arrayvec::ArrayString;
 use disk_model::{Host, send_all};
 use history_load::{LoadFault, Totals, is_empty, load_stream};
 use history_reads::HeadFault;
-use std::alloc::{AllocError, Global};
+use itoa::Buffer;
+use std::alloc::Global;
+
+/// The most bytes of the line: its words, and the digits of two numbers.
+const LINE_MOST: usize = 54;
 
 // The status where a stream wasn't loaded.
 fn status_unloaded(fault: LoadFault) -> Status
@@ -35,12 +40,19 @@ fn status_unloaded(fault: LoadFault) -> Status
     }
 }
 
-fn line_of(alloc: Global, totals: &Totals) -> Result<String, AllocError>
-    ensures { IfOk result
-        (λ line. string_bytes line ≡ load_line totals.now.versions totals.now.leaves) }
+// The line, which stands in a buffer: behind a commit no memory is wanted.
+fn line_of(totals: &Totals) -> ArrayString<LINE_MOST>
+    ensures { result.bytes ≡ load_line totals.now.versions totals.now.leaves }
 {
-    let Totals { versions, leaves } = *totals;
-    format!(in alloc; "ok load versions {versions} segs {leaves}\n")
+    let mut versions = Buffer::new();
+    let mut segs = Buffer::new();
+    let mut line = ArrayString::new();
+    line.push_str("ok load versions ");
+    line.push_str(versions.format(totals.versions));
+    line.push_str(" segs ");
+    line.push_str(segs.format(totals.leaves));
+    line.push_str("\n");
+    line
 }
 
 /// Opens the volume on the disk, which tests it whole, and where it is empty reads a stream into it, and sends a line with how many versions and leaves came. A
@@ -73,10 +85,8 @@ pub fn loaded<H: Host>(alloc: Global, host: &mut H) -> Status
         Ok(totals) => totals,
         Err(fault) => return status_unloaded(fault),
     };
-    let Ok(line) = line_of(alloc, &totals) else {
-        return Status::Memory;
-    };
-    if send_all(host, line.as_bytes()).is_err() {
+    let line = line_of(&totals);
+    if send_all(host, line.as_str().as_bytes()).is_err() {
         return Status::OutputFault;
     }
     Status::Done

@@ -1,8 +1,23 @@
-use Rattle.std.proofs.lemmas.Result.{IfOk-at_ok}
-use Rattle.ex_base.proofs.Results.{if_ok_from}
+use Rattle.std.proofs.Common.{◌≡◌, ◌∙◌, ℕ, List, [], ◌∷◌, ◌++◌, append_assoc}
+use Rattle.std.specs.Prelude.{codes, decimal}
 use Rattle.exsm_run.specs.Load.{load_line}
 use Rattle.exsm_run.proofs.load.line_of.Goals as goal
 
+-- parts that were put behind each other one by one
+parts : (a b c d e : List ℕ) → (((([] ++ a) ++ b) ++ c) ++ d) ++ e ≡ a ++ (b ++ (c ++ (d ++ e)))
+parts a b c d e = append_assoc ((a ++ b) ++ c) d e ∙ append_assoc (a ++ b) c (d ++ e) ∙ append_assoc a b (c ++ (d ++ e))
+
 pub returns : goal.returns
 unfolding load_line
-returns c = if_ok_from c.format.result _ (λ line is. IfOk-at_ok _ is c.format.ensures.ok)
+returns c =
+    cc (
+      parts (codes "ok load versions ") (decimal c.args.totals.now.versions) (codes " segs ") (decimal c.args.totals.now.leaves) (10 ∷ []),
+      c.new-line.ensures,
+      c.push_str.ensures.bytes,
+      c.format.ensures.text,
+      c.push_str-2.ensures.bytes,
+      c.push_str-3.ensures.bytes,
+      c.format-2.ensures.text,
+      c.push_str-4.ensures.bytes,
+      c.push_str-5.ensures.bytes,
+    )
