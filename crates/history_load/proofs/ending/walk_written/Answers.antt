@@ -10,6 +10,9 @@ use Rattle.history_load.proofs.WalkedBack.{leaves_used, nodes_in_trees, none_bad
 use Rattle.history_load.proofs.WalkedUnits.{walked}
 use Rattle.history_load.proofs.ending.walk_written.Goals as goal
 
+pub returns-in-Err-BadVolume-clause-walked : goal.returns-in-Err-BadVolume-clause-walked
+returns-in-Err-BadVolume-clause-walked g c = tt
+
 pub returns-in-Err-BadVolume-clause-bad : goal.returns-in-Err-BadVolume-clause-bad
 returns-in-Err-BadVolume-clause-bad g c e catalog image spelled holds found =
     let p = c.args.progress.now in
