@@ -1,6 +1,6 @@
 -- What an item that was taken does to what is kept of the stream.
-use Rattle.std.proofs.Common.{◌≡◌, ◌<◌, ◌≤◌, ℕ, suc, List, [], ◌∷◌, ◌++◌, length, map, Option, Some, refl, sym, ap, subst, ◌∙◌, arith}
-use Rattle.std.proofs.lemmas.List.{map-append}
+use Rattle.std.proofs.Common.{◌≡◌, ◌<◌, ◌≤◌, ℕ, suc, List, [], ◌∷◌, ◌++◌, length, map, Option, Some, refl, sym, ap, subst, ◌∙◌, add-one, arith}
+use Rattle.std.proofs.lemmas.List.{length_push, map-append}
 use Rattle.ex_base.specs.declared.geometry.Geometry.{Geometry}
 use Rattle.history_counts.specs.Numbers.{Numbers}
 use Rattle.history_counts.specs.Pages.{needs_with_file, needs_with_files, needs_with_record, no_needs}
@@ -116,12 +116,8 @@ file_is g joined was now held has read at =
       sound = subst (λ (i : Item). IsSound g (after has.front i)) item t.sound;
       whole = has.keeps.missing ∙ says.2;
       missing = keeps.missing;
-      files = keeps.files ∙ count_more (files_of has.front) (record { name = (front_read held).name; versions = [] }) ∙ ap suc (sym has.keeps.files);
+      files = keeps.files ∙ length_push (files_of has.front) (record { name = (front_read held).name; versions = [] }) ∙ add-one (length (files_of has.front)) ∙ ap suc (sym has.keeps.files);
       more = says.3;
       needs = keeps.needs ∙ needs_file g.page_size no_needs (files_of has.front) (front_read held).name ∙ ap needs_with_file (sym has.keeps.needs);
       numbers = ap (λ (n : Numbers). n.numbers) keeps.numbers;
     }
-  where
-    count_more : (files : List HistoryFile) (one : HistoryFile) → length (files ++ one ∷ []) ≡ suc (length files)
-    count_more [] one = refl
-    count_more (f ∷ files) one = ap suc (count_more files one)

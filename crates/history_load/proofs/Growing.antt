@@ -2,6 +2,7 @@
 use Rattle.std.proofs.Common.{◌≡◌, ◌<◌, ◌≤◌, ℕ, List, [], ◌∷◌, ◌++◌, refl, sym, ap, subst, ◌∙◌, arith, inl, inr, append_assoc}
 use Rattle.std.specs.List.{AllByRecursion, AllZip, flat_map, zip}
 use Rattle.std.proofs.lemmas.List.{append-nil}
+use Rattle.std.proofs.lemmas.Slice.Zip.{all_zipped_more}
 use Rattle.ex_base.specs.declared.geometry.Geometry.{Geometry}
 use Rattle.ex_base.specs.Order.{AllDiffer}
 use Rattle.ex_base.specs.Ports.{times}
@@ -47,12 +48,6 @@ no_files_on g units first end = record { contents = []; indexes = tt; pages = tt
 
 -- ---- one more
 
-zip_more : {A B : Type 0} (R : A → B → Type 0) (xs : List A) (ys : List B) (x : A) (y : B) → AllZip R xs ys → R x y → AllZip R (xs ++ x ∷ []) (ys ++ y ∷ [])
-zip_more R [] [] x y are is = (is, tt)
-zip_more R [] (z ∷ ys) x y are is = absurd are
-zip_more R (z ∷ xs) [] x y are is = absurd are
-zip_more R (z ∷ xs) (w ∷ ys) x y are is = (are.0, zip_more R xs ys x y are.1 is)
-
 pairs_more : {A B : Type 0} (R : A → B → Type 0) (xs : List A) (ys : List B) (x : A) (y : B) → AllZip R xs ys → zip (xs ++ x ∷ []) (ys ++ y ∷ []) ≡ zip xs ys ++ (x, y) ∷ []
 pairs_more R [] [] x y are = refl
 pairs_more R [] (z ∷ ys) x y are = absurd are
@@ -92,10 +87,10 @@ files_more g units first mid end files entries f entry low high on one =
     let pages : flat_map pages_of_file (on.contents ++ one.content ∷ []) ≡ flat_map pages_of_file on.contents ++ pages_of_file one.content = flat_more pages_of_file on.contents one.content in
     record {
       contents = on.contents ++ one.content ∷ [];
-      indexes = zip_more (HasIndex g units) entries on.contents entry one.content on.indexes one.index;
-      pages = zip_more (HasPages units) entries on.contents entry one.content on.pages one.pages;
+      indexes = all_zipped_more (HasIndex g units) entries on.contents entry one.content on.indexes one.index;
+      pages = all_zipped_more (HasPages units) entries on.contents entry one.content on.pages one.pages;
       records = each-append (λ (file : FileContent). AllZip IsStored (bodies_in file) file.stored) on.contents (one.content ∷ []) on.records (one.records, tt);
-      on = subst (λ rows. AllZip (IsFileOn (leaf_place g) node_place) (files ++ f ∷ []) rows) (sym row) (zip_more (IsFileOn (leaf_place g) node_place) files (zip entries on.contents) f (entry, one.content) on.on one.on);
+      on = subst (λ rows. AllZip (IsFileOn (leaf_place g) node_place) (files ++ f ∷ []) rows) (sym row) (all_zipped_more (IsFileOn (leaf_place g) node_place) files (zip entries on.contents) f (entry, one.content) on.on one.on);
       newer = each-append (λ (file : FileContent). AllByRecursion (HasNewer file.stored) file.stored) on.contents (one.content ∷ []) on.newer (one.newer, tt);
       placed = subst (λ (ps : List ℕ). AllByRecursion (LiesIn first end) ps) (sym pages) (each-append (LiesIn first end) (flat_map pages_of_file on.contents) (pages_of_file one.content)
           (wider first mid first end (flat_map pages_of_file on.contents) (omega arith) high on.placed) (wider mid end first end (pages_of_file one.content) low (omega arith) one.placed));

@@ -1,9 +1,9 @@
 -- A leaf or a node that was taken.
-use Rattle.std.proofs.Common.{◌≡◌, ◌<◌, ◌≤◌, ◌+◌, ◌-◌, ℕ, zero, suc, Bool, true, false, nat_lt, List, [], ◌∷◌, ◌++◌, length, map, drop, take, Option, Some, None, refl, sym, ap, subst, ◌∙◌, arith}
+use Rattle.std.proofs.Common.{◌≡◌, ◌<◌, ◌≤◌, ◌+◌, ◌-◌, ℕ, zero, suc, Bool, true, false, nat_lt, List, [], ◌∷◌, ◌++◌, length, map, drop, take, Option, Some, None, refl, sym, ap, subst, ◌∙◌, add-one, arith}
 use Rattle.std.specs.List.{AllZip, flat_map, zip}
 use Rattle.std.specs.Prelude.{if◌then◌else◌}
 use Rattle.std.proofs.lemmas.Bool.{ltb-false}
-use Rattle.std.proofs.lemmas.List.{take-append-drop, take_at}
+use Rattle.std.proofs.lemmas.List.{length_push, take-append-drop, take_at}
 use Rattle.disk_model.specs.Outside.{Outside}
 use Rattle.ex_base.specs.declared.geometry.Geometry.{Geometry}
 use Rattle.ex_base.specs.Fields.{four_bytes, length-field_bytes}
@@ -69,10 +69,6 @@ none_missing f hand none = by_count f.missing refl
 no_files : (f : Front) → f.files ≡ [] → f.hand ≡ None → files_of f ≡ []
 no_files f files hand = ap (λ (fs : List HistoryFile). fs ++ one_of f.hand) files ∙ ap one_of hand
 
-count_more : {A : Type 0} (xs : List A) (x : A) → length (xs ++ x ∷ []) ≡ suc (length xs)
-count_more [] x = refl
-count_more (y ∷ xs) x = ap suc (count_more xs x)
-
 -- ---- a leaf
 
 pub record LeafIs (g : Geometry) (held : List ℕ) (f k : Front) (was now : Progress) : Type 0 where
@@ -103,7 +99,7 @@ leaf_is g joined was now held has read at =
     let none = no_files has.front nothing.1 nothing.2 in
     record {
       is = subst (IsLeafItem g) body of.1;
-      number = keeps.leaves ∙ count_more has.front.leaves (drop 4 held);
+      number = keeps.leaves ∙ length_push has.front.leaves (drop 4 held) ∙ add-one (length has.front.leaves);
       more = says;
       piece = record {
         front_is = front;
@@ -140,7 +136,7 @@ node_is g joined was now held has read at =
     let none = no_files has.front nothing.0 nothing.1 in
     record {
       is = fits;
-      number = keeps.nodes ∙ count_more has.front.nodes (node_read held);
+      number = keeps.nodes ∙ length_push has.front.nodes (node_read held) ∙ add-one (length has.front.nodes);
       more = says.1;
       piece = record {
         front_is = front;

@@ -10,7 +10,7 @@ use Rattle.history_items.specs.declared.head.Head.{Head}
 use Rattle.history_load.specs.Loading.{IsLoadedTo}
 use Rattle.history_load.specs.declared.loader.Loader.{Loader}
 use Rattle.history_model.specs.Dumps.{IsDump, IsNoDump}
-use Rattle.history_model.specs.Stream.{HasHead, StreamHead, bytes_most, lack_of, misfit_of}
+use Rattle.history_model.specs.Stream.{HasHead, StreamHead, bytes_most, head_len, lack_of, misfit_of}
 use Rattle.history_reads.specs.declared.heads.HeadFault.{HeadFault}
 use Rattle.history_reads.specs.declared.heads.HeadFault.TheVariants.{Bad, Misfit, NoRoom}
 use Rattle.table_model.specs.declared.table.Table.{Table}
@@ -32,11 +32,15 @@ Takes a b n = (was : List ℕ) → a.left ≡ Some was → b.left ≡ Some (drop
 -- As many may be taken of a stream: with a head one more than a dump with that head has at most, and without one as many as a head has.
 pub record IsDrawn (stream : List ℕ) (n : ℕ) : Type 0 where
   pub headed : (head : StreamHead) → HasHead stream head → n ≤ bytes_most head.page_size (head.seg_len * head.page_size) head + 1
-  pub headless : ((head : StreamHead) → HasHead stream head → ⊥) → n ≤ 52
+  pub headless : ((head : StreamHead) → HasHead stream head → ⊥) → n ≤ head_len
+
+-- how many bytes are taken of the source at once, at most
+abbrev pub piece_most : ℕ
+piece_most = 65536
 
 -- how many bytes may come behind the head, with one more
 abbrev pub most_behind : Geometry → Head → ℕ
-most_behind g head = bytes_most g.page_size (leaf_bytes g) (stream_head head) + 1 - 52
+most_behind g head = bytes_most g.page_size (leaf_bytes g) (stream_head head) + 1 - head_len
 
 -- ---- what is loaded
 
@@ -54,7 +58,7 @@ NoneComes g a old = (image joined was : List ℕ) → IsTrue a.honest → a.disk
 
 -- Where the head alone was loaded, it and all that the source has left are no dump.
 abbrev pub NoneBehindHead : Geometry → Outside → Loader → Type 0
-NoneBehindHead g a old = (image joined was : List ℕ) → IsTrue a.honest → a.disk ≡ Some image → a.left ≡ Some was → length joined ≡ 52 → IsLoadedTo g image joined old
+NoneBehindHead g a old = (image joined was : List ℕ) → IsTrue a.honest → a.disk ≡ Some image → a.left ≡ Some was → length joined ≡ head_len → IsLoadedTo g image joined old
     → IsNoDump (joined ++ was) g
 
 -- Where a front of the stream was loaded, it and all that the source had left are now.

@@ -250,7 +250,7 @@ impl Loader {
             Turn::Node => self.take_node(disk),
             Turn::File => self.take_file(alloc, disk),
             Turn::Version => self.take_version(alloc, disk),
-            Turn::End => Err(LoadFault::BAD),
+            Turn::End => unreachable!(),
         }
     }
 

@@ -7,8 +7,8 @@ ghost use Rattle.history_fronts.specs.Fronts.{IsDumpHead};
 ghost use Rattle.history_items.specs.Heads.{stream_head};
 ghost use Rattle.history_load.specs.Faults.{LoadCause};
 ghost use Rattle.history_load.specs.Loading.{IsLoader};
-ghost use Rattle.history_load.specs.Streams.{CountsVersions, Feeds, IsDrawn, IsWrittenAs, LoadsAll, NoneBehindHead, NoneComes, StreamRefused, Takes, TakesAndWrites, most_behind};
-ghost use Rattle.history_model.specs.Stream.{HasHead, StreamHead, lack_of};
+ghost use Rattle.history_load.specs.Streams.{CountsVersions, Feeds, IsDrawn, IsWrittenAs, LoadsAll, NoneBehindHead, NoneComes, StreamRefused, Takes, TakesAndWrites, most_behind, piece_most};
+ghost use Rattle.history_model.specs.Stream.{HasHead, StreamHead, head_len, lack_of};
 ghost use Rattle.history_reads.specs.Kept.{AreOfOneStream};
 ghost use Rattle.history_reads.specs.declared.heads.HeadFault.{HeadFault as AHeadFault};
 ghost use Rattle.history_load.specs.Staying.{StaysEmpty};
@@ -90,14 +90,14 @@ fn take_all<S: Source>(source: &mut S, out: &mut [u8]) -> Result<usize, LoadFaul
 fn take_head<S: Source>(source: &mut S, geometry: &Geometry) -> Result<Head, LoadFault>
     ensures only { SourceOnly (S.outside source.old) (S.outside source.new) }
     ensures head { IfOk result (λ head. (was : List ℕ) → (S.outside source.old).left ≡ Some was
-        → HasHead was (stream_head head) × (52 ≤ length was)
-        × ((S.outside source.new).left ≡ Some (drop 52 was))) }
+        → HasHead was (stream_head head) × (head_len ≤ length was)
+        × ((S.outside source.new).left ≡ Some (drop head_len was))) }
     ensures is { IfOk result (λ head. IsDumpHead geometry.now (stream_head head)) }
     ensures room { IfOk result (λ head. lack_of (geometry.now.pages - 1) geometry.now.segs
         (stream_head head) ≡ None) }
     ensures refused { (fault : AHeadFault) (was : List ℕ) → result ≡ Err (LoadFault.Stream fault)
         → (S.outside source.old).left ≡ Some was → StreamRefused geometry.now was fault }
-    ensures draws { (n : ℕ) × (n ≤ 52)
+    ensures draws { (n : ℕ) × (n ≤ head_len)
         × Takes (S.outside source.old) (S.outside source.new) n }
     ensures cause { IfErr result (LoadCause (S.outside source.old) (S.outside source.new)) }
 {
@@ -178,7 +178,7 @@ fn feed_all<H: Host>(alloc: Global, host: &mut H, loader: &mut Loader) -> Result
 
 /// Room for a piece.
 fn new_piece(alloc: Global) -> Result<Vec<u8>, AllocError>
-    ensures { IfOk result (λ piece. length piece.items ≡ 65536) }
+    ensures { IfOk result (λ piece. length piece.items ≡ piece_most) }
 {
     vec![in alloc; 0u8; PIECE]
 }

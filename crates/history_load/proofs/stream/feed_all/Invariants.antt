@@ -1,6 +1,6 @@
 use Rattle.std.proofs.Common.{◌≡◌, ◌≤◌, ◌-◌, vec_len}
 use Rattle.history_load.specs.Loading.{IsLoader}
-use Rattle.history_load.specs.Streams.{Feeds, TakesAndWrites, most_behind}
+use Rattle.history_load.specs.Streams.{Feeds, TakesAndWrites, most_behind, piece_most}
 use Rattle.history_reads.specs.Kept.{AreOfOneStream}
 use Rattle.history_load.specs.Staying.{StaysEmpty}
 use Rattle.restart.specs.Opening.{AreOpened}
@@ -9,7 +9,7 @@ use Rattle.history_load.proofs.stream.feed_all.Given as goal
 
 abbrev pub invariant-pieces : goal.invariant-pieces
 invariant-pieces g l = record {
-  size : vec_len l.piece ≡ 65536;
+  size : vec_len l.piece ≡ piece_most;
   few : l.left ≤ most_behind l.initial.loader.progress.geometry l.initial.loader.progress.head;
   stream : AreOfOneStream l.initial.loader.progress l.loader.progress;
   is : IsLoader l.initial.loader.progress.geometry l.loader;
