@@ -1,7 +1,7 @@
 //! Where a stream goes on.
 
 /// Which item of a stream comes next. An index may be that behind the last one: then it is the first item of the kind that follows.
-#[derive(Clone, Copy, Debug, PartialEq, Eq)]
+#[derive(Clone, Copy)]
 pub(crate) enum Position {
     Head,
     Leaf(u32),
