@@ -1,4 +1,4 @@
-//! What a caller remembers of the room of files: from which page on a new record may find a place, so that it need not look at full pages again.
+//! What a caller remembers of the room of files: which pages may have a place for a new record, so that it need not look at full pages again.
 #![tactic(auto)]
 
 mod rooms;

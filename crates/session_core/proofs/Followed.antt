@@ -1,12 +1,13 @@
 -- An update stays one where a call that only reads follows it.
-use Rattle.std.proofs.Common.{◌≡◌, sym, subst}
+use Rattle.std.proofs.Common.{◌≡◌, ◌≤◌, ◌+◌, ℕ, sym, subst}
 use Rattle.std.specs.Prelude.{Result, Ok, Err, IfOk, IfErr}
 use Rattle.ex_base.specs.declared.ground.Ground as ground
 use Rattle.ex_base.specs.declared.faults.PortFault.{PortFault}
+use Rattle.ex_base.specs.declared.names.Area.{Area}
 use Rattle.ex_base.specs.Ports.{IsDamage, Keeps}
 use Rattle.volume_model.specs.Volume.{table_of}
 use Rattle.volume_edits.specs.Ported.{units_in}
-use Rattle.volume_edits.specs.TableUpdates.{BecomesVolume, TableUpdate, updated}
+use Rattle.volume_edits.specs.TableUpdates.{BecomesVolume, TableUpdate, TakesWithin, updated}
 use Rattle.volume_edits.proofs.MovedVolumes.{apart_before, still_becomes, used_before}
 use Rattle.session_core.specs.declared.updates.Done.{Done}
 use Rattle.session_core.specs.Performed.{Updates}
@@ -21,3 +22,7 @@ still_updated g old mid new keeps u done (Ok read) does same never = record {
   sound = tt;
 }
 still_updated g old mid new keeps u done (Err fault) does same never = record { done = tt; sound = λ damage records v tells vol asks room. never damage }
+
+-- nothing is taken after an update
+pub still_taken : {S : Type 0} (g : ground.Ghosts S) (old mid new : S) (need : Area → ℕ) → g.free new ≡ g.free mid → TakesWithin g old mid need → TakesWithin g old new need
+still_taken g old mid new need same took area = subst (λ (free : Area → ℕ). g.free old area ≤ free area + need area) (sym same) (took area)

@@ -93,7 +93,7 @@ impl Session {
             &self.volume.kept,
         );
         self.volume.meta.undo();
-        self.rooms.forget();
+        self.rooms.go_back(&self.volume.kept);
         self.names.unbind_marked();
         self.notes.clear();
         self.gained.clear();

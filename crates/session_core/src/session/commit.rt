@@ -138,6 +138,7 @@ impl Session {
             self.rooms.forget();
             return Err(uncommitted(fault));
         }
+        self.rooms.settle();
         self.names.unmark();
         self.notes.clear();
         Ok(Reply::Commit { number })

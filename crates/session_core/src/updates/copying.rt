@@ -13,7 +13,7 @@ ghost use Rattle.session_core.specs.Performed.{Updates};
 
 use super::Done;
 use super::creating::count_number;
-use ex_base::{Oid, PortFault, Volume};
+use ex_base::{Area, Oid, PortFault, Volume};
 use file_rooms::Rooms;
 use std::alloc::Global;
 use version_tree::{derive, file_of, freeze};
@@ -53,19 +53,22 @@ pub fn copy<V: Volume>(
     ensures cause { HasCause (V.faults volume.old) (V.faults volume.new) result }
 {
     count_number(volume, alloc, unique)?;
-    let mut room = rooms.of_file(file_of(volume, alloc, place_of(oid))?);
+    let asked = rooms.of_copy(file_of(volume, alloc, place_of(oid))?);
+    let free = volume.free(Area::Page);
+    let mut room = asked;
     let copied = match copying {
         Copying::Freeze => freeze(volume, alloc, oid, &mut room, unique),
         Copying::Derive => derive(volume, alloc, oid, &mut room, unique),
     };
     match copied {
         Ok(made) => {
-            rooms.keep(room);
-            Ok(Done {
+            rooms.keep_copy(&asked, room, volume.free(Area::Page) < free);
+            let done = Done {
                 oid: made.oid,
                 gone: None,
                 come: made.come,
-            })
+            };
+            rooms.look_at(volume, alloc, made.oid.page, done)
         }
         Err(fault) => Err(fault),
     }

@@ -18,7 +18,7 @@ ghost use Rattle.session_core.specs.Performed.{Updates};
 ghost use Rattle.session_core.specs.Damage.{IsFaultIn, no_version};
 
 use super::Done;
-use ex_base::{PageNo, PortFault, Seen, Volume};
+use ex_base::{Area, PageNo, PortFault, Seen, Volume};
 use file_rooms::Rooms;
 use object_files::{CatalogView, set_numbers};
 use std::alloc::Global;
@@ -101,15 +101,18 @@ pub fn create<V: Volume>(
     ensures cause { HasCause (V.faults volume.old) (V.faults volume.new) result }
 {
     count_number(volume, alloc, unique)?;
-    let mut room = rooms.of_file(file_no);
+    let asked = rooms.of_file(file_no);
+    let free = volume.free(Area::Page);
+    let mut room = asked;
     match create_version(volume, alloc, &mut room, unique) {
         Ok(oid) => {
-            rooms.keep(room);
-            Ok(Done {
+            rooms.keep(&asked, room, volume.free(Area::Page) < free);
+            let done = Done {
                 oid,
                 gone: None,
                 come: None,
-            })
+            };
+            rooms.look_at(volume, alloc, oid.page, done)
         }
         Err(fault) => Err(fault),
     }

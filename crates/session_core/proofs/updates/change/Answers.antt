@@ -2,12 +2,11 @@ use Rattle.versions.specs.Edited.{change_of}
 use Rattle.volume_edits.specs.TableUpdates.{Changes}
 use Rattle.session_core.proofs.Changed.{change_failed, version_changed}
 use Rattle.session_core.proofs.Followed.{still_updated}
-use Rattle.file_rooms.proofs.Remembered.{one_lowered}
 use Rattle.versions.proofs.Results.{ok_of}
 use Rattle.volume_edits.proofs.UnitsTaken.{change_taken}
 use Rattle.session_core.specs.Damage.{IsFaultIn, the_version}
 use Rattle.std.proofs.lemmas.Result.{IfErr-weaker}
-use Rattle.std.proofs.Common.{refl}
+use Rattle.std.proofs.Common.{refl, inl}
 use Rattle.volume_edits.specs.Damage.{as_it_is, ports_own}
 use Rattle.volume_edits.proofs.Damage.{told_version}
 use Rattle.session_core.proofs.updates.change.Goals as goal
@@ -23,7 +22,7 @@ pub returns-in-Err-clause-updates : goal.returns-in-Err-clause-updates
 returns-in-Err-clause-updates g c = change_failed g.V.Ground c.args.volume.now c.apply.new.volume c.args.oid.now (change_of c.args.edit.now) c.in-Err.fault c.in-Err.ensures.sound
 
 pub returns-in-Ok-clause-rooms : goal.returns-in-Ok-clause-rooms
-returns-in-Ok-clause-rooms g c = one_lowered c.args.rooms.now c.look_at.new.self c.args.oid.now.page.0 c.look_at.ensures.rooms
+returns-in-Ok-clause-rooms g c = inl c.look_at.ensures.rooms
 
 pub returns-in-Ok-clause-takes : goal.returns-in-Ok-clause-takes
 returns-in-Ok-clause-takes g c = ok_of c.look_at.result _

@@ -4,7 +4,7 @@ use Rattle.ex_base.specs.declared.names.Place.{Place}
 use Rattle.ex_base.specs.Ports.{IsDamage}
 use Rattle.ex_base.specs.declared.names.Index.{Index}
 use Rattle.file_bodies.specs.Files.{HasBody}
-use Rattle.std.proofs.lemmas.Result.{IfErr-at_err, IfOk-at_ok, err_from_is_err_and}
+use Rattle.std.proofs.lemmas.Result.{IfErr-at_err, IfErr-weaker, IfOk-at_ok, err_from_is_err_and}
 use Rattle.ex_base.proofs.Results.{from_ok}
 use Rattle.session_core.specs.declared.updates.copying.Copying.{Copying}
 use Rattle.session_core.specs.declared.updates.copying.Copying.TheVariants as copying
@@ -12,14 +12,18 @@ use Rattle.session_core.specs.Performed.{copies}
 use Rattle.volume_edits.specs.TableUpdates.{TakesNeed}
 use Rattle.session_core.specs.Performed.{Updates}
 use Rattle.session_core.proofs.Copied.{copy_taken, derive_failed, derived_made, freeze_failed, frozen_made, uncounted, unfiled}
-use Rattle.file_rooms.proofs.Remembered.{number_kept}
+use Rattle.session_core.proofs.Followed.{still_taken, still_updated}
+use Rattle.file_rooms.specs.Rooms.{ChangesOne}
+use Rattle.volume_edits.specs.Damage.{ports_own}
+use Rattle.versions.proofs.Results.{ok_of}
+use Rattle.session_core.proofs.TakingPages.{keeps_takes, takes_both}
 use Rattle.volume_edits.proofs.UnitsTaken.{pages_taken}
 use Rattle.session_core.proofs.updates.copying.copy.Goals as goal
 use Rattle.ex_base.proofs.Results.{if_err_handed}
 use Rattle.version_tree.specs.Links.{IsStartFault}
 use Rattle.volume_edits.specs.Damage.{as_it_is}
 use Rattle.volume_edits.proofs.Damage.{after_count, after_reading, told_catalog, told_derive, told_freeze, told_start}
-use Rattle.session_core.specs.Damage.{the_version}
+use Rattle.session_core.specs.Damage.{IsFaultIn, the_version}
 use Rattle.session_core.proofs.updates.copying.copy.Goals.{in-Freeze, in-Derive}
 
 pub returns-in_err-count_number-clause-updates : goal.returns-in_err-count_number-clause-updates
@@ -36,42 +40,42 @@ returns-in_err-file_of-clause-updates g c =
 pub returns-in-Ok-clause-updates : goal.returns-in-Ok-clause-updates
 returns-in-Ok-clause-updates g c =
     let mid = c.count_number.new.volume in
-    let room = number_kept c.args.rooms.now c.in_ok-file_of.field-0 c.of_file-room.result c.of_file-room.ensures in
+    let room = c.of_copy.ensures.file in
     let filed = subst (λ (place : Place). g.V.Ground.tells mid → (index : Index) (body : List ℕ) → HasBody g.V.Ground mid index place body → index.file_no ≡ c.in_ok-file_of.field-0) c.place_of.ensures c.in_ok-file_of.ensures.number in
-    elim c.match-copying.branch [
+    still_updated g.V.Ground c.args.volume.now c.match-copying.volume c.look_at.new.volume c.look_at.ensures.kept (copies c.args.copying c.args.oid.now c.args.unique) (record { oid = c.in-Ok.made.oid; gone = None; come = c.in-Ok.made.come }) c.look_at.result (elim c.match-copying.branch [
       | in-Freeze w ↦
           let did : w.freeze-copied.result ≡ Ok c.in-Ok.made = sym w.copied-is ∙ c.in-Ok.is in
           let told = w.freeze-copied.ensures in
           subst (λ (k : Copying). Updates g.V.Ground c.args.volume.now c.match-copying.volume (copies k c.args.oid.now c.args.unique) (Ok (record { oid = c.in-Ok.made.oid; gone = None; come = c.in-Ok.made.come }))) (sym w.in-Freeze.is)
           (subst (λ volume. Updates g.V.Ground c.args.volume.now volume (copies copying.Freeze c.args.oid.now c.args.unique) (Ok (record { oid = c.in-Ok.made.oid; gone = None; come = c.in-Ok.made.come }))) (sym w.volume-is)
-          (frozen_made g.V.Ground c.args.volume.now w.freeze-copied.new.volume c.args.oid.now c.args.unique mid c.file_of.new.volume c.count_number.ensures.leads c.in_ok-count_number.ensures.counts c.file_of.ensures.kept c.in_ok-file_of.field-0 c.of_file-room.result.file_no room filed
+          (frozen_made g.V.Ground c.args.volume.now w.freeze-copied.new.volume c.args.oid.now c.args.unique mid c.file_of.new.volume c.count_number.ensures.leads c.in_ok-count_number.ensures.counts c.file_of.ensures.kept c.in_ok-file_of.field-0 c.of_copy.result.file_no room filed
           c.in-Ok.made (IfOk-at_ok _ did told.number) told.leads (from_ok w.freeze-copied.result c.in-Ok.made _ did told.takes) (IfOk-at_ok _ did told.come) (IfOk-at_ok _ did told.frozen)))
       | in-Derive w ↦
           let did : w.derive-copied.result ≡ Ok c.in-Ok.made = sym w.copied-is ∙ c.in-Ok.is in
           let told = w.derive-copied.ensures in
           subst (λ (k : Copying). Updates g.V.Ground c.args.volume.now c.match-copying.volume (copies k c.args.oid.now c.args.unique) (Ok (record { oid = c.in-Ok.made.oid; gone = None; come = c.in-Ok.made.come }))) (sym w.in-Derive.is)
           (subst (λ volume. Updates g.V.Ground c.args.volume.now volume (copies copying.Derive c.args.oid.now c.args.unique) (Ok (record { oid = c.in-Ok.made.oid; gone = None; come = c.in-Ok.made.come }))) (sym w.volume-is)
-          (derived_made g.V.Ground c.args.volume.now w.derive-copied.new.volume c.args.oid.now c.args.unique mid c.file_of.new.volume c.count_number.ensures.leads c.in_ok-count_number.ensures.counts c.file_of.ensures.kept c.in_ok-file_of.field-0 c.of_file-room.result.file_no room filed
+          (derived_made g.V.Ground c.args.volume.now w.derive-copied.new.volume c.args.oid.now c.args.unique mid c.file_of.new.volume c.count_number.ensures.leads c.in_ok-count_number.ensures.counts c.file_of.ensures.kept c.in_ok-file_of.field-0 c.of_copy.result.file_no room filed
           c.in-Ok.made (IfOk-at_ok _ did told.number) told.leads (from_ok w.derive-copied.result c.in-Ok.made _ did told.takes) (IfOk-at_ok _ did told.come) (IfOk-at_ok _ did told.derived)))
-    ]
+    ]) c.look_at.ensures.same c.look_at.ensures.no_damage
 
 pub returns-in-Err-clause-updates : goal.returns-in-Err-clause-updates
 returns-in-Err-clause-updates g c =
     let mid = c.count_number.new.volume in
-    let room = number_kept c.args.rooms.now c.in_ok-file_of.field-0 c.of_file-room.result c.of_file-room.ensures in
+    let room = c.of_copy.ensures.file in
     let filed = subst (λ (place : Place). g.V.Ground.tells mid → (index : Index) (body : List ℕ) → HasBody g.V.Ground mid index place body → index.file_no ≡ c.in_ok-file_of.field-0) c.place_of.ensures c.in_ok-file_of.ensures.number in
     elim c.match-copying.branch [
       | in-Freeze w ↦
           let failed : w.freeze-copied.result ≡ Err c.in-Err.fault = sym w.copied-is ∙ c.in-Err.is in
           subst (λ (k : Copying). Updates g.V.Ground c.args.volume.now c.match-copying.volume (copies k c.args.oid.now c.args.unique) (Err c.in-Err.fault)) (sym w.in-Freeze.is)
           (subst (λ volume. Updates g.V.Ground c.args.volume.now volume (copies copying.Freeze c.args.oid.now c.args.unique) (Err c.in-Err.fault)) (sym w.volume-is)
-          (freeze_failed g.V.Ground c.args.volume.now w.freeze-copied.new.volume c.args.oid.now c.args.unique mid c.file_of.new.volume c.count_number.ensures.leads c.in_ok-count_number.ensures.counts c.file_of.ensures.kept c.in_ok-file_of.field-0 c.of_file-room.result.file_no room filed
+          (freeze_failed g.V.Ground c.args.volume.now w.freeze-copied.new.volume c.args.oid.now c.args.unique mid c.file_of.new.volume c.count_number.ensures.leads c.in_ok-count_number.ensures.counts c.file_of.ensures.kept c.in_ok-file_of.field-0 c.of_copy.result.file_no room filed
           c.in-Err.fault (IfErr-at_err _ failed w.freeze-copied.ensures.sound)))
       | in-Derive w ↦
           let failed : w.derive-copied.result ≡ Err c.in-Err.fault = sym w.copied-is ∙ c.in-Err.is in
           subst (λ (k : Copying). Updates g.V.Ground c.args.volume.now c.match-copying.volume (copies k c.args.oid.now c.args.unique) (Err c.in-Err.fault)) (sym w.in-Derive.is)
           (subst (λ volume. Updates g.V.Ground c.args.volume.now volume (copies copying.Derive c.args.oid.now c.args.unique) (Err c.in-Err.fault)) (sym w.volume-is)
-          (derive_failed g.V.Ground c.args.volume.now w.derive-copied.new.volume c.args.oid.now c.args.unique mid c.file_of.new.volume c.count_number.ensures.leads c.in_ok-count_number.ensures.counts c.file_of.ensures.kept c.in_ok-file_of.field-0 c.of_file-room.result.file_no room filed
+          (derive_failed g.V.Ground c.args.volume.now w.derive-copied.new.volume c.args.oid.now c.args.unique mid c.file_of.new.volume c.count_number.ensures.leads c.in_ok-count_number.ensures.counts c.file_of.ensures.kept c.in_ok-file_of.field-0 c.of_copy.result.file_no room filed
           c.in-Err.fault (IfErr-at_err _ failed w.derive-copied.ensures.sound)))
     ]
 
@@ -79,21 +83,30 @@ pub returns-in-Ok-clause-takes : goal.returns-in-Ok-clause-takes
 returns-in-Ok-clause-takes g c =
     let G = g.V.Ground in
     let old = c.args.volume.now in
+    let new = c.look_at.new.volume in
     let none = c.file_of.ensures.kept.free ∙ c.in_ok-count_number.ensures.free in
-    elim c.match-copying.branch [
+    ok_of c.look_at.result _ (elim c.match-copying.branch [
       | in-Freeze w ↦
           let did : w.freeze-copied.result ≡ Ok c.in-Ok.made = sym w.copied-is ∙ c.in-Ok.is in
           let told = w.freeze-copied.ensures in
-          subst (λ volume. TakesNeed G old volume (copies c.args.copying c.args.oid.now c.args.unique)) (sym w.volume-is)
-          (copy_taken G old w.freeze-copied.new.volume c.args.copying c.args.oid.now c.args.unique
-          (pages_taken G old c.file_of.new.volume w.freeze-copied.new.volume none (from_ok w.freeze-copied.result c.in-Ok.made _ did told.pages) (from_ok w.freeze-copied.result c.in-Ok.made _ did told.leaves)))
+          let mid = w.freeze-copied.new.volume in
+          copy_taken G old new c.args.copying c.args.oid.now c.args.unique
+          (still_taken G old mid new _ (subst (λ volume. G.free new ≡ G.free volume) w.volume-is c.look_at.ensures.kept.free)
+          (pages_taken G old c.file_of.new.volume mid none (from_ok w.freeze-copied.result c.in-Ok.made _ did told.pages) (from_ok w.freeze-copied.result c.in-Ok.made _ did told.leaves)))
       | in-Derive w ↦
           let did : w.derive-copied.result ≡ Ok c.in-Ok.made = sym w.copied-is ∙ c.in-Ok.is in
           let told = w.derive-copied.ensures in
-          subst (λ volume. TakesNeed G old volume (copies c.args.copying c.args.oid.now c.args.unique)) (sym w.volume-is)
-          (copy_taken G old w.derive-copied.new.volume c.args.copying c.args.oid.now c.args.unique
-          (pages_taken G old c.file_of.new.volume w.derive-copied.new.volume none (from_ok w.derive-copied.result c.in-Ok.made _ did told.pages) (from_ok w.derive-copied.result c.in-Ok.made _ did told.leaves)))
-    ]
+          let mid = w.derive-copied.new.volume in
+          copy_taken G old new c.args.copying c.args.oid.now c.args.unique
+          (still_taken G old mid new _ (subst (λ volume. G.free new ≡ G.free volume) w.volume-is c.look_at.ensures.kept.free)
+          (pages_taken G old c.file_of.new.volume mid none (from_ok w.derive-copied.result c.in-Ok.made _ did told.pages) (from_ok w.derive-copied.result c.in-Ok.made _ did told.leaves)))
+    ])
+
+pub returns-in-Ok-clause-rooms : goal.returns-in-Ok-clause-rooms
+returns-in-Ok-clause-rooms g c = subst (ChangesOne c.args.rooms.now) (sym c.look_at.ensures.rooms) c.keep_copy.ensures
+
+pub returns-in-Ok-clause-fault : goal.returns-in-Ok-clause-fault
+returns-in-Ok-clause-fault g c = IfErr-weaker c.look_at.result _ (IsFaultIn g.V.Ground c.args.volume.now (the_version c.args.oid.now)) (λ fault never told. as_it_is (ports_own never)) c.look_at.ensures.no_damage
 
 pub returns-in_err-count_number-clause-fault : goal.returns-in_err-count_number-clause-fault
 returns-in_err-count_number-clause-fault g c = if_err_handed c.from_residual.result _ _ c.from_residual.ensures.1

@@ -1,8 +1,7 @@
-use Rattle.std.proofs.Common.{None, refl}
+use Rattle.std.proofs.Common.{None, refl, inl}
 use Rattle.volume_edits.specs.TableUpdates.{Drops}
 use Rattle.session_core.proofs.Removed.{drop_failed, version_dropped}
 use Rattle.session_core.proofs.Followed.{still_updated}
-use Rattle.file_rooms.proofs.Remembered.{one_lowered}
 use Rattle.versions.proofs.Results.{ok_of}
 use Rattle.volume_edits.proofs.UnitsTaken.{nothing_taken}
 use Rattle.session_core.specs.Damage.{IsFaultIn, the_version}
@@ -21,7 +20,7 @@ pub returns-in-Err-clause-updates : goal.returns-in-Err-clause-updates
 returns-in-Err-clause-updates g c = drop_failed g.V.Ground c.args.volume.now c.drop_version.new.volume c.args.oid.now c.in-Err.fault c.in-Err.ensures.sound
 
 pub returns-in-Ok-clause-rooms : goal.returns-in-Ok-clause-rooms
-returns-in-Ok-clause-rooms g c = one_lowered c.args.rooms.now c.look_at.new.self c.args.oid.now.page.0 c.look_at.ensures.rooms
+returns-in-Ok-clause-rooms g c = inl c.look_at.ensures.rooms
 
 pub returns-in-Ok-clause-takes : goal.returns-in-Ok-clause-takes
 returns-in-Ok-clause-takes g c = ok_of c.look_at.result _

@@ -1,6 +1,0 @@
-use Rattle.std.proofs.Common.{sym, ◌∙◌}
-use Rattle.file_bodies.proofs.Pages.{is_page, number_is}
-use Rattle.file_rooms.proofs.rooms.file_with_room.Goals as goal
-
-pub returns : goal.returns
-returns c = (is_page c.args.page.now c.in-Some.view.page c.in-Some.ensures.found.1, number_is c.args.page.now c.in-Some.view.page c.in-Some.ensures.found.1 ∙ sym c.file_no.ensures)
