@@ -40,7 +40,7 @@ returns-in_err-file_of-clause-updates g c =
 pub returns-in-Ok-clause-updates : goal.returns-in-Ok-clause-updates
 returns-in-Ok-clause-updates g c =
     let mid = c.count_number.new.volume in
-    let room = c.of_copy.ensures.file in
+    let room = c.of_copy-asked.ensures.file in
     let filed = subst (λ (place : Place). g.V.Ground.tells mid → (index : Index) (body : List ℕ) → HasBody g.V.Ground mid index place body → index.file_no ≡ c.in_ok-file_of.field-0) c.place_of.ensures c.in_ok-file_of.ensures.number in
     still_updated g.V.Ground c.args.volume.now c.match-copying.volume c.look_at.new.volume c.look_at.ensures.kept (copies c.args.copying c.args.oid.now c.args.unique) (record { oid = c.in-Ok.made.oid; gone = None; come = c.in-Ok.made.come }) c.look_at.result (elim c.match-copying.branch [
       | in-Freeze w ↦
@@ -48,34 +48,34 @@ returns-in-Ok-clause-updates g c =
           let told = w.freeze-copied.ensures in
           subst (λ (k : Copying). Updates g.V.Ground c.args.volume.now c.match-copying.volume (copies k c.args.oid.now c.args.unique) (Ok (record { oid = c.in-Ok.made.oid; gone = None; come = c.in-Ok.made.come }))) (sym w.in-Freeze.is)
           (subst (λ volume. Updates g.V.Ground c.args.volume.now volume (copies copying.Freeze c.args.oid.now c.args.unique) (Ok (record { oid = c.in-Ok.made.oid; gone = None; come = c.in-Ok.made.come }))) (sym w.volume-is)
-          (frozen_made g.V.Ground c.args.volume.now w.freeze-copied.new.volume c.args.oid.now c.args.unique mid c.file_of.new.volume c.count_number.ensures.leads c.in_ok-count_number.ensures.counts c.file_of.ensures.kept c.in_ok-file_of.field-0 c.of_copy.result.file_no room filed
+          (frozen_made g.V.Ground c.args.volume.now w.freeze-copied.new.volume c.args.oid.now c.args.unique mid c.file_of.new.volume c.count_number.ensures.leads c.in_ok-count_number.ensures.counts c.file_of.ensures.kept c.in_ok-file_of.field-0 c.of_copy-asked.result.file_no room filed
           c.in-Ok.made (IfOk-at_ok _ did told.number) told.leads (from_ok w.freeze-copied.result c.in-Ok.made _ did told.takes) (IfOk-at_ok _ did told.come) (IfOk-at_ok _ did told.frozen)))
       | in-Derive w ↦
           let did : w.derive-copied.result ≡ Ok c.in-Ok.made = sym w.copied-is ∙ c.in-Ok.is in
           let told = w.derive-copied.ensures in
           subst (λ (k : Copying). Updates g.V.Ground c.args.volume.now c.match-copying.volume (copies k c.args.oid.now c.args.unique) (Ok (record { oid = c.in-Ok.made.oid; gone = None; come = c.in-Ok.made.come }))) (sym w.in-Derive.is)
           (subst (λ volume. Updates g.V.Ground c.args.volume.now volume (copies copying.Derive c.args.oid.now c.args.unique) (Ok (record { oid = c.in-Ok.made.oid; gone = None; come = c.in-Ok.made.come }))) (sym w.volume-is)
-          (derived_made g.V.Ground c.args.volume.now w.derive-copied.new.volume c.args.oid.now c.args.unique mid c.file_of.new.volume c.count_number.ensures.leads c.in_ok-count_number.ensures.counts c.file_of.ensures.kept c.in_ok-file_of.field-0 c.of_copy.result.file_no room filed
+          (derived_made g.V.Ground c.args.volume.now w.derive-copied.new.volume c.args.oid.now c.args.unique mid c.file_of.new.volume c.count_number.ensures.leads c.in_ok-count_number.ensures.counts c.file_of.ensures.kept c.in_ok-file_of.field-0 c.of_copy-asked.result.file_no room filed
           c.in-Ok.made (IfOk-at_ok _ did told.number) told.leads (from_ok w.derive-copied.result c.in-Ok.made _ did told.takes) (IfOk-at_ok _ did told.come) (IfOk-at_ok _ did told.derived)))
     ]) c.look_at.ensures.same c.look_at.ensures.no_damage
 
 pub returns-in-Err-clause-updates : goal.returns-in-Err-clause-updates
 returns-in-Err-clause-updates g c =
     let mid = c.count_number.new.volume in
-    let room = c.of_copy.ensures.file in
+    let room = c.of_copy-asked.ensures.file in
     let filed = subst (λ (place : Place). g.V.Ground.tells mid → (index : Index) (body : List ℕ) → HasBody g.V.Ground mid index place body → index.file_no ≡ c.in_ok-file_of.field-0) c.place_of.ensures c.in_ok-file_of.ensures.number in
     elim c.match-copying.branch [
       | in-Freeze w ↦
           let failed : w.freeze-copied.result ≡ Err c.in-Err.fault = sym w.copied-is ∙ c.in-Err.is in
           subst (λ (k : Copying). Updates g.V.Ground c.args.volume.now c.match-copying.volume (copies k c.args.oid.now c.args.unique) (Err c.in-Err.fault)) (sym w.in-Freeze.is)
           (subst (λ volume. Updates g.V.Ground c.args.volume.now volume (copies copying.Freeze c.args.oid.now c.args.unique) (Err c.in-Err.fault)) (sym w.volume-is)
-          (freeze_failed g.V.Ground c.args.volume.now w.freeze-copied.new.volume c.args.oid.now c.args.unique mid c.file_of.new.volume c.count_number.ensures.leads c.in_ok-count_number.ensures.counts c.file_of.ensures.kept c.in_ok-file_of.field-0 c.of_copy.result.file_no room filed
+          (freeze_failed g.V.Ground c.args.volume.now w.freeze-copied.new.volume c.args.oid.now c.args.unique mid c.file_of.new.volume c.count_number.ensures.leads c.in_ok-count_number.ensures.counts c.file_of.ensures.kept c.in_ok-file_of.field-0 c.of_copy-asked.result.file_no room filed
           c.in-Err.fault (IfErr-at_err _ failed w.freeze-copied.ensures.sound)))
       | in-Derive w ↦
           let failed : w.derive-copied.result ≡ Err c.in-Err.fault = sym w.copied-is ∙ c.in-Err.is in
           subst (λ (k : Copying). Updates g.V.Ground c.args.volume.now c.match-copying.volume (copies k c.args.oid.now c.args.unique) (Err c.in-Err.fault)) (sym w.in-Derive.is)
           (subst (λ volume. Updates g.V.Ground c.args.volume.now volume (copies copying.Derive c.args.oid.now c.args.unique) (Err c.in-Err.fault)) (sym w.volume-is)
-          (derive_failed g.V.Ground c.args.volume.now w.derive-copied.new.volume c.args.oid.now c.args.unique mid c.file_of.new.volume c.count_number.ensures.leads c.in_ok-count_number.ensures.counts c.file_of.ensures.kept c.in_ok-file_of.field-0 c.of_copy.result.file_no room filed
+          (derive_failed g.V.Ground c.args.volume.now w.derive-copied.new.volume c.args.oid.now c.args.unique mid c.file_of.new.volume c.count_number.ensures.leads c.in_ok-count_number.ensures.counts c.file_of.ensures.kept c.in_ok-file_of.field-0 c.of_copy-asked.result.file_no room filed
           c.in-Err.fault (IfErr-at_err _ failed w.derive-copied.ensures.sound)))
     ]
 

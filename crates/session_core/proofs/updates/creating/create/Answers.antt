@@ -33,7 +33,7 @@ returns-in-Ok-clause-updates g c = λ name.
       done = λ records v told vol asks apart in_use.
           let writes = c.in_ok-count_number.ensures.counts told in
           becomes G old mid records v vol name c.args.file_no c.args.unique asks writes new c.in-Ok.oid c.in-Ok.ensures.number (G.leads_geometry mid new c.create.ensures.leads) apart in_use c.in-Ok.ensures.takes
-          (c.in-Ok.ensures.anywhere (G.leads_told old mid c.count_number.ensures.leads told) (index_named asks.entry) (its_file G old mid records v vol name c.args.file_no c.args.unique asks writes) (asks.number ∙ sym c.of_file.ensures.file));
+          (c.in-Ok.ensures.anywhere (G.leads_told old mid c.count_number.ensures.leads told) (index_named asks.entry) (its_file G old mid records v vol name c.args.file_no c.args.unique asks writes) (asks.number ∙ sym c.of_file-asked.ensures.file));
       sound = tt;
     }) c.look_at.ensures.same c.look_at.ensures.no_damage
 
@@ -46,7 +46,7 @@ returns-in-Err-clause-updates g c = λ name.
       done = tt;
       sound = λ damage records v told vol asks room.
           let writes = c.in_ok-count_number.ensures.counts told in
-          c.in-Err.ensures.sound damage (G.leads_told old mid c.count_number.ensures.leads told) (index_named asks.entry) (its_file G old mid records v vol name c.args.file_no c.args.unique asks writes) (asks.number ∙ sym c.of_file.ensures.file);
+          c.in-Err.ensures.sound damage (G.leads_told old mid c.count_number.ensures.leads told) (index_named asks.entry) (its_file G old mid records v vol name c.args.file_no c.args.unique asks writes) (asks.number ∙ sym c.of_file-asked.ensures.file);
     }
 
 pub returns-in-Ok-clause-rooms : goal.returns-in-Ok-clause-rooms
@@ -68,4 +68,4 @@ pub returns-in-Err-clause-fault : goal.returns-in-Err-clause-fault
 returns-in-Err-clause-fault g c = λ told.
     let mid = c.count_number.new.volume in
     after_count g.V.Ground no_version c.in-Err.fault c.args.volume.now mid _ (c.in_ok-count_number.ensures.counts told)
-    (of_placing c.of_file.result.file_no _ (c.in-Err.ensures.fault (g.V.Ground.leads_told c.args.volume.now mid c.count_number.ensures.leads told)))
+    (of_placing c.of_file-asked.result.file_no _ (c.in-Err.ensures.fault (g.V.Ground.leads_told c.args.volume.now mid c.count_number.ensures.leads told)))
