@@ -79,6 +79,7 @@ module _ {S : Type 0} (g : ground.Ghosts S) where
       };
       installs = λ differ. absurd (differ same);
       stays = λ is. ext;
+      held = ext.held;
     }
 
     -- ---- where the record is written
@@ -179,4 +180,5 @@ module _ {S : Type 0} (g : ground.Ghosts S) where
         version = version_c;
         installs = λ differ. installs_root;
         stays = λ same. absurd (differs same);
+        held = r.put.held ∙ ext.held;
       }

@@ -31,6 +31,6 @@ module _ {S : Type 0} (g : ground.Ghosts S) (old new : S) (records : List LogRec
     ]
   ]
 
-  pub tree_moves : MovesTree g old new records v root made
+  pub tree_moves : MovesTree g old new records v oid root made
   tree_moves = moves_tree g old new records v vol index oid head root made bytes geometry apart has (moved.installs differ)
       (each_as (IsOwn g old new moves (root_units (g.unit old) root)) (IsObjectUnit g old v (place_of oid) root) (root_units (g.unit new) made) object_unit moved.tree.own)

@@ -29,12 +29,24 @@ is_of object s = is_some (numbered_in object.versions (Some (unique_of s)))
 abbrev pub roots_of_object : Volume → Object → List Root
 roots_of_object v object = roots_in (filter (is_of object) (stored_in v))
 
--- The first object, by files and least numbers, of which more nodes lead to high units than pages are free.
-pub record IsFirstLacking (d : Decoded) (image : List ℕ) (dense free need : ℕ) : Type 0 where
+-- how many nodes lead to high units in the trees of the object
+abbrev pub need_in : Decoded → List ℕ → ℕ → Object → ℕ
+need_in d image dense object = need_of d.geometry dense (units_of d image) (roots_of_object d.volume object)
+
+-- at most as many as pages are free
+abbrev pub HasEnough : Decoded → List ℕ → ℕ → ℕ → Object → Type 0
+HasEnough d image dense free object = need_in d image dense object ≤ free
+
+-- The first of these objects of which more nodes lead to high units than pages are free.
+pub record IsFirstLacking (d : Decoded) (image : List ℕ) (dense free need : ℕ) (objects : List Object) : Type 0 where
   pub before : List Object
   pub object : Object
   pub behind : List Object
-  pub objects : objects_of (table_of (units_of d image) d.volume) ≡ before ++ object ∷ behind
-  pub enough : AllByRecursion (λ (o : Object). need_of d.geometry dense (units_of d image) (roots_of_object d.volume o) ≤ free) before
-  pub need_is : need ≡ need_of d.geometry dense (units_of d image) (roots_of_object d.volume object)
+  pub parted : objects ≡ before ++ object ∷ behind
+  pub enough : AllByRecursion (HasEnough d image dense free) before
+  pub need_is : need ≡ need_in d image dense object
   pub more : free < need
+
+-- all objects of the volume's table, by the names of their files and by their least numbers
+abbrev pub all_objects : Decoded → List ℕ → List Object
+all_objects d image = objects_of (table_of (units_of d image) d.volume)

@@ -42,6 +42,8 @@ pub fn move_version<V: Volume>(
         (root_units (V.unit volume.old) root.now)
         → VersionMoved V.Ground volume.old volume.new index oid.now head.now dense
         (copies_of moves.old) (copies_of moves.new) root.now made bytes) }
+    ensures still { IfOk result (λ made. made ≡ root.now
+        → V.touched volume.new ≡ V.touched volume.old) }
     ensures sound { IfErr result (λ fault. IsDamage fault → V.tells volume.old
         → AreInUse V.Ground volume.old → (index : Index) (bytes : List ℕ)
         → HasVersion V.Ground volume.old index oid.now head.now (Large root.now) bytes

@@ -1,5 +1,5 @@
 -- Who owns the units of a volume in which a version's tree gave way to another one.
-use Rattle.std.proofs.Common.{◌≡◌, ℕ, ◌+◌, ◌≤◌, true, false, true≢false, List, [], ◌∷◌, ◌++◌, length, refl, sym, ap, subst, ◌∙◌, arith, inl, inr}
+use Rattle.std.proofs.Common.{◌≡◌, ℕ, ◌+◌, ◌<◌, ◌≤◌, true, false, true≢false, List, [], ◌∷◌, ◌++◌, length, refl, sym, ap, subst, ◌∙◌, arith, inl, inr}
 use Rattle.std.specs.Prelude.{Contains}
 use Rattle.std.proofs.lemmas.List.{length-append}
 use Rattle.ex_base.specs.declared.ground.Ground as ground
@@ -7,7 +7,7 @@ use Rattle.ex_base.specs.declared.names.Index.{Index}
 use Rattle.ex_base.specs.declared.names.Oid.{Oid}
 use Rattle.ex_base.specs.declared.names.Root.{Root}
 use Rattle.ex_base.specs.Area.{catalog_no}
-use Rattle.ex_base.specs.Ports.{times}
+use Rattle.ex_base.specs.Ports.{refs_most, times}
 use Rattle.ex_base.proofs.Counts.{contains_times, none_or_some, times-append, times_contains, times_here}
 use Rattle.ex_base.proofs.Members.{contains_in, in_contains, in_left}
 use Rattle.object_records.specs.declared.Head.{Head}
@@ -22,10 +22,10 @@ use Rattle.volume_model.proofs.OwnersAlike.{owned_same}
 use Rattle.volume_edits.specs.Edits.{trees_of}
 use Rattle.volume_edits.specs.Ported.{IsVolume, units_in}
 use Rattle.volume_moves.specs.Moves.{InstallsRoot, MovesTree}
-use Rattle.volume_moves.proofs.Owning.{owned_made}
+use Rattle.volume_moves.proofs.Owning.{few_made, owned_made}
 
 module _ {S : Type 0} (g : ground.Ghosts S) (old new : S) (records : List LogRecord) (v : Volume) (index : Index) (oid : Oid) (head : Head) (gone come : Root) (bytes : List ℕ) (vol : IsVolume g old records v)
-    (same : g.geometry new ≡ g.geometry old) (edit : InstallsRoot g old new index oid head come bytes) (moved : MovesTree g old new records v gone come) (names : NamesPairs g)
+    (same : g.geometry new ≡ g.geometry old) (edit : InstallsRoot g old new index oid head come bytes) (moved : MovesTree g old new records v oid gone come) (names : NamesPairs g)
     (owns : OwnsUnits (g.geometry old) (g.unit old) v (g.used old) (g.refs old)) (after : ℕ → ℕ) (counts : (u : ℕ) → after u ≡ g.refs new u + times u (root_pages (come ∷ []))) where
   abbrev logged : List ℕ
   logged = catalog_no ∷ file_pages v
@@ -77,3 +77,9 @@ module _ {S : Type 0} (g : ground.Ghosts S) (old new : S) (records : List LogRec
     where
       paged : (u : ℕ) → times u (file_pages now) ≡ times u (file_pages v)
       paged u = ap (times u) moved.pages
+
+  -- no count reaches its end with the root that came
+  pub few_moved : (u : ℕ) → g.refs new u + times u (root_pages (come ∷ [])) < refs_most
+  few_moved = few_made g old new v now gone come moved.replaced names logged roots owns same edit.kept edit.used moved.volume.shows.held in_use
+      (omega (arith, times_here catalog_no catalog_no (file_pages v) refl)) (λ page has. inl (filed page has))
+      apart few

@@ -2,7 +2,7 @@
 use Rattle.std.proofs.Common.{◌≡◌, ◌≢◌, ℕ, ◌+◌, ◌<◌, ◌≤◌, true, false, true≢false, Bool, List, [], ◌∷◌, ◌++◌, Some, refl, sym, ap, subst, ◌∙◌, arith, inl, inr, ◌⊎◌}
 use Rattle.std.specs.Prelude.{map, Contains, if◌then◌else◌}
 use Rattle.std.specs.List.{flat_map, AllByRecursion, AllZip}
-use Rattle.std.proofs.lemmas.List.{map-append}
+use Rattle.std.proofs.lemmas.List.{append_assoc, map-append}
 use Rattle.std.proofs.lemmas.List.Concat.{flat_map-append}
 use Rattle.ex_base.specs.declared.ground.Ground as ground
 use Rattle.ex_base.specs.declared.names.Oid.{Oid}
@@ -52,7 +52,7 @@ use Rattle.volume_model.proofs.Places.{Sep, has_each, has_stands, sep_from, sep_
 use Rattle.volume_model.proofs.Versions.{stored_rises}
 use Rattle.volume_edits.specs.Ported.{IsVolume, IsApart, units_in}
 use Rattle.volume_edits.specs.Edits.{trees_of}
-use Rattle.volume_moves.specs.Moves.{AreOfOneObject, InstallsRoot, IsObjectUnit, MovesTree, ReplacesRoot}
+use Rattle.volume_moves.specs.Moves.{AreOfOneObject, InstallsRoot, IsObjectUnit, MovesTree, ReplacesRoot, TurnsRecord}
 use Rattle.trees.specs.Owners.{root_pages}
 use Rattle.volume_edits.proofs.Editing.{is_edited, keeps_links, keeps_objects}
 use Rattle.volume_edits.proofs.Edited.{Edit, all_kept, edited, fine_root, olds, own_kept, own_trees as file_trees, places_after, table_edited, tree_moved, trees_from, units_kept}
@@ -456,7 +456,24 @@ module _ {S : Type 0} (g : ground.Ghosts S) (old new : S) (records : List LogRec
           let s_in = in_volume s.0 (has_back (stored_first h) (was ++ stored_last h) s.0 (has_front was (stored_last h) s.0 (in_has was s.0 s.1))) in
           inl (contains_in u (trees_of U v) (record_trees s.0 s_in u (into_flat (root_units U) u root (root_in s.0.body.content) s.2 (subst (λ (us : List ℕ). In u us) (units_kept g old new records h index index was later vol the_edit root tree) here))))
 
-  pub moved_volume : MovesTree g old new records v gone come
+  turned : TurnsRecord v v' oid gone come
+  turned = record {
+    front = stored_first h ++ front;
+    back = back ++ stored_last h;
+    was = x;
+    is = y;
+    before = stored_filled h (g.image old) index was ∙ ap (λ (xs : List Stored). stored_first h ++ (xs ++ stored_last h)) was_is ∙ around x;
+    after = stored_filled h (g.image new) index later ∙ ap (λ (xs : List Stored). stored_first h ++ (xs ++ stored_last h)) later_is ∙ around y;
+    was_oid = oid_is;
+    is_oid = oid_is;
+    was_root = refl;
+    is_root = refl;
+  }
+    where
+      around : (z : Stored) → stored_first h ++ ((front ++ (z ∷ back)) ++ stored_last h) ≡ (stored_first h ++ front) ++ (z ∷ (back ++ stored_last h))
+      around z = ap (λ (xs : List Stored). stored_first h ++ xs) (append_assoc front (z ∷ back) (stored_last h)) ∙ sym (append_assoc (stored_first h) front (z ∷ (back ++ stored_last h)))
+
+  pub moved_volume : MovesTree g old new records v oid gone come
   moved_volume = record {
     now = v';
     volume = edited g old new records h index index was later vol the_edit trees_later fine_later uniques objects;
@@ -467,14 +484,15 @@ module _ {S : Type 0} (g : ground.Ghosts S) (old new : S) (records : List LogRec
       | inl k ↦ inl (contains_in u (trees_of U v) k)
       | inr k ↦ tree_source u k
     ];
+    turns = turned;
     replaced = replaced;
   }
 
 module _ {S : Type 0} (g : ground.Ghosts S) (old new : S) (records : List LogRecord) (v : Volume) (vol : IsVolume g old records v) (index : Index) (oid : Oid) (head : Head) (gone come : Root) (bytes : List ℕ)
     (geometry : g.geometry new ≡ g.geometry old) (apart : IsApart g new) (had : HasVersion g old index oid head (Large gone) bytes) (edit : InstallsRoot g old new index oid head come bytes)
     (of_object : AllByRecursion (IsObjectUnit g old v (place_of oid) gone) (root_units (g.unit new) come)) where
-  pub moves_tree : MovesTree g old new records v gone come
+  pub moves_tree : MovesTree g old new records v oid gone come
   moves_tree =
       let p : Placed (g.image old) v index = placed g old records v vol.shows index had.stored.stands.file.entry in
-      subst (λ (w : Volume). MovesTree g old new records w gone come) (sym p.same)
+      subst (λ (w : Volume). MovesTree g old new records w oid gone come) (sym p.same)
       (moved_volume g old new records p.hole index (subst (IsVolume g old records) p.same vol) oid head gone come bytes geometry apart had edit (subst (λ (w : Volume). AllByRecursion (IsObjectUnit g old w (place_of oid) gone) (root_units (g.unit new) come)) p.same of_object) p.number p.paired p.records)

@@ -1,5 +1,5 @@
 -- Who owns the units of a port after one root gave way to another one.
-use Rattle.std.proofs.Common.{◌≡◌, ◌⊎◌, ◌↔◌, inl, inr, ℕ, ◌+◌, ◌≤◌, true, false, true≢false, List, [], ◌∷◌, ◌++◌, length, Some, sym, ap, subst, ◌∙◌, arith}
+use Rattle.std.proofs.Common.{◌≡◌, ◌⊎◌, ◌↔◌, inl, inr, ℕ, ◌+◌, ◌<◌, ◌≤◌, true, false, true≢false, List, [], ◌∷◌, ◌++◌, length, Some, sym, ap, subst, ◌∙◌, arith}
 use Rattle.std.specs.Prelude.{Contains}
 use Rattle.std.specs.List.{AllByRecursion}
 use Rattle.std.proofs.lemmas.Bool.{cases_Bool}
@@ -8,7 +8,7 @@ use Rattle.ex_base.specs.declared.ground.Ground as ground
 use Rattle.ex_base.specs.declared.geometry.Geometry.{Geometry}
 use Rattle.ex_base.specs.declared.names.Root.{Root}
 use Rattle.ex_base.specs.Area.{InPageArea, catalog_no}
-use Rattle.ex_base.specs.Ports.{times}
+use Rattle.ex_base.specs.Ports.{refs_most, times}
 use Rattle.ex_base.proofs.Counts.{contains_times, times-append, times_apart, times_contains}
 use Rattle.ex_base.proofs.Each.{each_with}
 use Rattle.ex_base.proofs.Members.{contains_in, in_contains, in_left}
@@ -118,3 +118,9 @@ module _ {S : Type 0} (g : ground.Ghosts S) (old new : S) (v now : Volume) (gone
       nodes_made (g.geometry old) (g.unit old) (g.used old) (g.refs old) logged roots is (g.unit new) (g.used new) logged_now counted.nodes (Some come) made after
       (λ u. (let below = few_counted (g.geometry old) (g.unit old) (g.used old) (g.refs old) logged roots is (g.unit new) (g.used new) logged_now counted.nodes (Some come) made few u in
       omega (arith, counts u, counted.refs u (omega (arith, below)))))
+
+  -- and none reaches it with the root that came
+  pub few_made : length (root_pages (come ∷ []) ++ roots) ≤ roots_most → (u : ℕ) → g.refs new u + times u (root_pages (come ∷ [])) < refs_most
+  few_made few u =
+      let below = few_counted (g.geometry old) (g.unit old) (g.used old) (g.refs old) logged roots is (g.unit new) (g.used new) logged_now counted.nodes (Some come) made few u in
+      omega (arith, below, counted.refs u (omega (arith, below)))

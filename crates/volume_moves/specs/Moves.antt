@@ -1,5 +1,5 @@
 -- What it makes of a volume that a version's tree gives way to another one of the same bytes.
-use Rattle.std.specs.Prelude.{◌≡◌, ◌≢◌, ◌⊎◌, ℕ, ◌+◌, ◌≤◌, true, false, List, [], ◌∷◌, Some, Contains}
+use Rattle.std.specs.Prelude.{◌≡◌, ◌≢◌, ◌⊎◌, ℕ, ◌+◌, ◌≤◌, true, false, List, [], ◌∷◌, ◌++◌, Some, Contains}
 use Rattle.std.specs.List.{AllByRecursion}
 use Rattle.ex_base.specs.declared.ground.Ground as ground
 use Rattle.ex_base.specs.declared.names.Index.{Index}
@@ -19,7 +19,7 @@ use Rattle.trees.specs.Owners.{root_pages}
 use Rattle.trees.specs.Trees.{Units, root_units}
 use Rattle.versions.specs.Versions.{HasVersion, place_of}
 use Rattle.volume_model.specs.Links.{HasObjects, stored_units}
-use Rattle.volume_model.specs.Volume.{Stored, Volume, file_pages, roots_in, stored_in, table_of}
+use Rattle.volume_model.specs.Volume.{Stored, Volume, file_pages, oid_of, roots_in, stored_in, table_of}
 use Rattle.volume_edits.specs.Edits.{trees_of}
 use Rattle.volume_edits.specs.Ported.{IsVolume, units_in}
 
@@ -71,13 +71,27 @@ pub record ReplacesRoot {S : Type 0} (g : ground.Ghosts S) (old new : S) (v now 
   pub own : (p : ℕ) → Contains (root_units (g.unit new) come) p → (g.used new p ≡ true) × (g.held new p ≡ false)
   pub tree : (p : ℕ) → IsTaken g old new p → g.held new p ≡ false → Contains (root_units (g.unit new) come) p
 
--- The port's working state becomes a volume of the same table, with the same catalog and the same pages, in which one root gave way to another one. Each
+-- The volumes have the same records, but that the one with this OID has another root.
+pub record TurnsRecord (v now : Volume) (oid : Oid) (gone come : Root) : Type 0 where
+  pub front : List Stored
+  pub back : List Stored
+  pub was : Stored
+  pub is : Stored
+  pub before : stored_in v ≡ front ++ (was ∷ back)
+  pub after : stored_in now ≡ front ++ (is ∷ back)
+  pub was_oid : oid_of was ≡ oid
+  pub is_oid : oid_of is ≡ oid
+  pub was_root : was.body.content ≡ Large gone
+  pub is_root : is.body.content ≡ Large come
+
+-- The port's working state becomes a volume of the same table, with the same catalog and the same pages, in which one record has another root. Each
 -- unit of its trees is one of before or of the tree that came.
-pub record MovesTree {S : Type 0} (g : ground.Ghosts S) (old new : S) (records : List LogRecord) (v : Volume) (gone come : Root) : Type 0 where
+pub record MovesTree {S : Type 0} (g : ground.Ghosts S) (old new : S) (records : List LogRecord) (v : Volume) (oid : Oid) (gone come : Root) : Type 0 where
   pub now : Volume
   pub volume : IsVolume g new records now
   pub table : table_of (units_in g new) now ≡ table_of (units_in g old) v
   pub catalog : now.catalog ≡ v.catalog
   pub pages : file_pages now ≡ file_pages v
   pub units : (u : ℕ) → Contains (trees_of (units_in g new) now) u → Contains (trees_of (units_in g old) v) u ⊎ Contains (root_units (g.unit new) come) u
+  pub turns : TurnsRecord v now oid gone come
   pub replaced : ReplacesRoot g old new v now gone come

@@ -33,7 +33,7 @@ pub fn a_moved_version<P: Ground>()
         → InstallsRoot P.Ground old new index oid head come bytes
         → AllByRecursion (IsObjectUnit P.Ground old v (place_of oid) gone)
         (root_units (P.Ground.unit new) come)
-        → MovesTree P.Ground old new records v gone come }
+        → MovesTree P.Ground old new records v oid gone come }
 {}
 
 /// Where each unit of a volume's trees has as many references as owners, it has so once the tree of a version gave way to another one: with the new root
@@ -43,7 +43,7 @@ pub fn owners_of_a_moved_volume<P: Ground>()
         (head : Head) (gone come : Root) (bytes : List ℕ) → IsVolume P.Ground old records v
         → P.Ground.geometry new ≡ P.Ground.geometry old
         → InstallsRoot P.Ground old new index oid head come bytes
-        → (moved : MovesTree P.Ground old new records v gone come) → NamesPairs P.Ground
+        → (moved : MovesTree P.Ground old new records v oid gone come) → NamesPairs P.Ground
         → OwnsUnits (P.Ground.geometry old) (P.Ground.unit old) v (P.Ground.used old)
         (P.Ground.refs old) → (after : ℕ → ℕ)
         → ((u : ℕ) → after u ≡ P.Ground.refs new u + times u (root_pages (come ∷ [])))

@@ -34,3 +34,11 @@ returns-clause-moved g c = λ told in_use index bytes has may away.
     tree_installed g.V.Ground c.args.volume.now c.move_tree.new.blocks index c.args.oid.now c.args.head.now c.args.root.now c.in_ok-made.made bytes c.args.dense (copies_of c.args.moves.now) (copies_of c.move_tree.new.moves) c.in_ok-made.ensures.extends in_use has
     (c.in_ok-made.ensures.moved told may) away c.in_ok-made.ensures.size c.put_root.new.volume
     (subst (λ (p : Place). PutsRecord g.V.Ground c.move_tree.new.blocks c.put_root.new.volume index p has.stored.body (large_record c.args.head.now c.in_ok-made.made)) c.place_of-place.ensures put) differ
+
+pub returns-then-eq-clause-still : goal.returns-then-eq-clause-still
+returns-then-eq-clause-still g c = λ same. c.in_ok-made.ensures.extends.touched
+
+pub returns-clause-still : goal.returns-clause-still
+returns-clause-still g c =
+    let differ : c.in_ok-made.made ≡ c.args.root.now → ⊥ = search rules in
+    λ same. absurd (differ same)
