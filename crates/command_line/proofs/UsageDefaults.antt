@@ -6,7 +6,7 @@ use Rattle.std.specs.Str.Parse.{digits_value}
 use Rattle.std.proofs.lemmas.Fmt.{decimal_is_IsNumeral}
 use Rattle.command_words.specs.Items.{number_given}
 use Rattle.command_words.specs.declared.commands.CommandWord.TheVariants as word
-use Rattle.command_words.specs.declared.wish.Wish.TheVariants.{Format, Run, Check, Gen, Clients, Dump, Load}
+use Rattle.command_words.specs.declared.wish.Wish.TheVariants.{Format, Run, Check, Gen, Clients, Dump, Load, Pack}
 use Rattle.command_line.specs.UsageText.{default}
 use Rattle.command_line.specs.UsageLaws.{IsDefault, TellsDefaults}
 
@@ -28,6 +28,7 @@ page_size items (Gen seed count) is none gives = absurd (cc)
 page_size items (Clients most) is none gives = absurd (cc)
 page_size items Dump is none gives = absurd (cc)
 page_size items Load is none gives = absurd (cc)
+page_size items Pack is none gives = absurd (cc)
 
 pages : IsDefault word.Format (default (codes "pages") 4096)
 pages items (Format g) is none gives = record {
@@ -43,6 +44,7 @@ pages items (Gen seed count) is none gives = absurd (cc)
 pages items (Clients most) is none gives = absurd (cc)
 pages items Dump is none gives = absurd (cc)
 pages items Load is none gives = absurd (cc)
+pages items Pack is none gives = absurd (cc)
 
 segs : IsDefault word.Format (default (codes "segs") 16384)
 segs items (Format g) is none gives = record {
@@ -58,6 +60,7 @@ segs items (Gen seed count) is none gives = absurd (cc)
 segs items (Clients most) is none gives = absurd (cc)
 segs items Dump is none gives = absurd (cc)
 segs items Load is none gives = absurd (cc)
+segs items Pack is none gives = absurd (cc)
 
 seg_len : IsDefault word.Format (default (codes "seg-len") 1)
 seg_len items (Format g) is none gives = record {
@@ -73,6 +76,7 @@ seg_len items (Gen seed count) is none gives = absurd (cc)
 seg_len items (Clients most) is none gives = absurd (cc)
 seg_len items Dump is none gives = absurd (cc)
 seg_len items Load is none gives = absurd (cc)
+seg_len items Pack is none gives = absurd (cc)
 
 max_bytes : IsDefault word.Run (default (codes "max-bytes") 1099511627776)
 max_bytes items (Run most) is none gives = same most 1099511627776 (number_given (codes "max-bytes") items) (omega arith) gives none
@@ -82,6 +86,7 @@ max_bytes items (Gen seed count) is none gives = absurd (cc)
 max_bytes items (Clients most) is none gives = absurd (cc)
 max_bytes items Dump is none gives = absurd (cc)
 max_bytes items Load is none gives = absurd (cc)
+max_bytes items Pack is none gives = absurd (cc)
 
 max_bytes_of_clients : IsDefault word.Clients (default (codes "max-bytes") 1099511627776)
 max_bytes_of_clients items (Clients most) is none gives = same most 1099511627776 (number_given (codes "max-bytes") items) (omega arith) gives none
@@ -91,6 +96,7 @@ max_bytes_of_clients items Check is none gives = absurd (cc)
 max_bytes_of_clients items (Gen seed count) is none gives = absurd (cc)
 max_bytes_of_clients items Dump is none gives = absurd (cc)
 max_bytes_of_clients items Load is none gives = absurd (cc)
+max_bytes_of_clients items Pack is none gives = absurd (cc)
 
 pub tells_defaults : TellsDefaults
 tells_defaults word.Format = (page_size, (pages, (segs, (seg_len, tt))))
@@ -100,3 +106,4 @@ tells_defaults word.Gen = tt
 tells_defaults word.Clients = (max_bytes_of_clients, tt)
 tells_defaults word.Dump = tt
 tells_defaults word.Load = tt
+tells_defaults word.Pack = tt

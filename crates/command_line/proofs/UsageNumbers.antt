@@ -10,7 +10,7 @@ use Rattle.command_words.specs.Wishes.{Gives, GivesGenerator, IsGeometryOf, comm
 use Rattle.command_words.specs.declared.commands.CommandWord.{CommandWord}
 use Rattle.command_words.specs.declared.commands.CommandWord.TheVariants as word
 use Rattle.command_words.specs.declared.wish.Wish.{Wish}
-use Rattle.command_words.specs.declared.wish.Wish.TheVariants.{Format, Run, Check, Gen, Clients, Dump, Load}
+use Rattle.command_words.specs.declared.wish.Wish.TheVariants.{Format, Run, Check, Gen, Clients, Dump, Load, Pack}
 use Rattle.command_line.specs.UsageText.{FromTo, FromToShare, OneOf, options_told}
 use Rattle.command_line.specs.UsageLaws.{AskFor, Have, IsOneOf, Keeps, page_size_in}
 
@@ -164,6 +164,7 @@ module _ (items : List Item) where
   by_wish word.Format (Clients most) is gives = absurd (cc)
   by_wish word.Format Dump is gives = absurd (cc)
   by_wish word.Format Load is gives = absurd (cc)
+  by_wish word.Format Pack is gives = absurd (cc)
   by_wish word.Run (Format g) is gives = absurd (cc)
   by_wish word.Run (Run most) is gives = (record { wanted = λ must. absurd (true≢false (sym must)); numbers = any_number (number_given (codes "max-bytes") items) }, tt)
   by_wish word.Run Check is gives = absurd (cc)
@@ -171,6 +172,7 @@ module _ (items : List Item) where
   by_wish word.Run (Clients most) is gives = absurd (cc)
   by_wish word.Run Dump is gives = absurd (cc)
   by_wish word.Run Load is gives = absurd (cc)
+  by_wish word.Run Pack is gives = absurd (cc)
   by_wish word.Check wish is gives = tt
   by_wish word.Gen (Format g) is gives = absurd (cc)
   by_wish word.Gen (Run most) is gives = absurd (cc)
@@ -179,6 +181,7 @@ module _ (items : List Item) where
   by_wish word.Gen (Clients most) is gives = absurd (cc)
   by_wish word.Gen Dump is gives = absurd (cc)
   by_wish word.Gen Load is gives = absurd (cc)
+  by_wish word.Gen Pack is gives = absurd (cc)
   by_wish word.Clients (Format g) is gives = absurd (cc)
   by_wish word.Clients (Run most) is gives = absurd (cc)
   by_wish word.Clients Check is gives = absurd (cc)
@@ -186,8 +189,10 @@ module _ (items : List Item) where
   by_wish word.Clients (Clients most) is gives = (record { wanted = λ must. absurd (true≢false (sym must)); numbers = any_number (number_given (codes "max-bytes") items) }, tt)
   by_wish word.Clients Dump is gives = absurd (cc)
   by_wish word.Clients Load is gives = absurd (cc)
+  by_wish word.Clients Pack is gives = absurd (cc)
   by_wish word.Dump wish is gives = tt
   by_wish word.Load wish is gives = tt
+  by_wish word.Pack wish is gives = tt
 
   kept_asks : (command : CommandWord) → Kept command items → AskFor command items
   kept_asks word.Format kept = format_asks kept
@@ -197,6 +202,7 @@ module _ (items : List Item) where
   kept_asks word.Clients kept = record { wish = Clients (unwrap_or (number_given (codes "max-bytes") items) 1099511627776); command_is = refl; gives = refl }
   kept_asks word.Dump kept = record { wish = Dump; command_is = refl; gives = tt }
   kept_asks word.Load kept = record { wish = Load; command_is = refl; gives = tt }
+  kept_asks word.Pack kept = record { wish = Pack; command_is = refl; gives = tt }
 
   pub tells : (command : CommandWord) → AskFor command items ↔ Kept command items
   tells command = (λ asks. by_wish command asks.wish asks.command_is asks.gives, kept_asks command)

@@ -5,7 +5,7 @@ use Rattle.std.specs.List.{flat_map, join_with_byte}
 use Rattle.command_words.specs.Items.{Text}
 use Rattle.command_words.specs.Commands.{text_of}
 use Rattle.command_words.specs.declared.commands.CommandWord.{CommandWord}
-use Rattle.command_words.specs.declared.commands.CommandWord.TheVariants.{Format, Run, Check, Gen, Clients, Dump, Load}
+use Rattle.command_words.specs.declared.commands.CommandWord.TheVariants.{Format, Run, Check, Gen, Clients, Dump, Load, Pack}
 
 -- the numbers that the text allows an option
 pub data Numbers : Type 0 where
@@ -42,6 +42,7 @@ options_told Gen = must_be (codes "seed") AnyNumber ∷ must_be (codes "count") 
 options_told Clients = may_be (codes "max-bytes") AnyNumber ∷ []
 options_told Dump = []
 options_told Load = []
+options_told Pack = []
 
 abbrev pub default : Text → ℕ → Default
 default name number = record { name = name; number = number }
@@ -55,6 +56,7 @@ defaults_told Gen = []
 defaults_told Clients = default (codes "max-bytes") 1099511627776 ∷ []
 defaults_told Dump = []
 defaults_told Load = []
+defaults_told Pack = []
 
 -- ---- the text
 
@@ -86,6 +88,7 @@ ending_text Gen = []
 ending_text Clients = codes " < SCHEDULE" ++ indent ++ flat_map default_text (defaults_told Clients)
 ending_text Dump = codes " > STREAM"
 ending_text Load = codes " < STREAM"
+ending_text Pack = []
 
 -- how a command is called
 unfoldable pub grammar_text : CommandWord → Text
@@ -97,4 +100,4 @@ next_text command = 10 ∷ (codes "       exsm " ++ grammar_text command)
 -- how a command is called, or the program where no command is named
 abbrev pub usage_text : Option CommandWord → Text
 usage_text (Some command) = codes "usage: exsm " ++ grammar_text command
-usage_text None = codes "usage: exsm " ++ (grammar_text Format ++ (next_text Run ++ (next_text Check ++ (next_text Gen ++ (next_text Clients ++ (next_text Dump ++ next_text Load))))))
+usage_text None = codes "usage: exsm " ++ (grammar_text Format ++ (next_text Run ++ (next_text Check ++ (next_text Gen ++ (next_text Clients ++ (next_text Dump ++ (next_text Load ++ next_text Pack)))))))

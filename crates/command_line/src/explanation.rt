@@ -178,6 +178,7 @@ impl Explanation<'_> {
             Some(CommandWord::Format) => "; the volume is made",
             Some(CommandWord::Dump) => "; what was sent is no whole dump",
             Some(CommandWord::Load) => "; the dump is loaded",
+            Some(CommandWord::Pack) => "; the volume is packed",
             _ => "; commits whose reply was sent stay",
         }
     }

@@ -41,9 +41,10 @@ impl fmt::Display for Usage {
                 let clients = Below(CommandWord::Clients);
                 let dump = Below(CommandWord::Dump);
                 let load = Below(CommandWord::Load);
+                let pack = Below(CommandWord::Pack);
                 write!(
                     f,
-                    "usage: exsm {format}{run}{check}{generate}{clients}{dump}{load}"
+                    "usage: exsm {format}{run}{check}{generate}{clients}{dump}{load}{pack}"
                 )
             }
         }
@@ -68,6 +69,8 @@ const DUMP: &str = "dump VOLUME > STREAM";
 
 const LOAD: &str = "load VOLUME < STREAM";
 
+const PACK: &str = "pack VOLUME";
+
 /// How a command is called, behind the program's name.
 fn grammar_of(command: CommandWord) -> &'static str
     ensures { result.now ≡ grammar_text command }
@@ -80,5 +83,6 @@ fn grammar_of(command: CommandWord) -> &'static str
         CommandWord::Clients => CLIENTS,
         CommandWord::Dump => DUMP,
         CommandWord::Load => LOAD,
+        CommandWord::Pack => PACK,
     }
 }

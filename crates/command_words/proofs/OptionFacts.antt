@@ -13,7 +13,7 @@ use Rattle.command_words.specs.ClapCommand.{app_for, is_fit}
 use Rattle.command_words.specs.Commands.{option_names, text_of}
 use Rattle.command_words.specs.Items.{HasName}
 use Rattle.command_words.specs.declared.commands.CommandWord.{CommandWord}
-use Rattle.command_words.specs.declared.commands.CommandWord.TheVariants.{Format, Run, Check, Gen, Clients, Dump, Load}
+use Rattle.command_words.specs.declared.commands.CommandWord.TheVariants.{Format, Run, Check, Gen, Clients, Dump, Load, Pack}
 use Rattle.command_words.proofs.Scan.{between, volume_id}
 use Rattle.command_words.proofs.ScanSpells.{OptionNames}
 use Rattle.command_words.proofs.WalkAsScan.{TakesOptions, volume_rule, option_rule, state, whole_fault}
@@ -211,6 +211,7 @@ built_is Gen = refl
 built_is Clients = refl
 built_is Dump = refl
 built_is Load = refl
+built_is Pack = refl
 
 pub simple : (c : CommandWord) → is_simple_and_free (app_for c) ≡ true
 simple Format = refl
@@ -220,6 +221,7 @@ simple Gen = refl
 simple Clients = refl
 simple Dump = refl
 simple Load = refl
+simple Pack = refl
 
 pub simple_only : (c : CommandWord) → is_simple (app_for c) ≡ true
 simple_only Format = refl
@@ -229,6 +231,7 @@ simple_only Gen = refl
 simple_only Clients = refl
 simple_only Dump = refl
 simple_only Load = refl
+simple_only Pack = refl
 
 all_words : (c : CommandWord) (ws : List Text) → argument_words (app_for c) ws ≡ ws
 all_words Format ws = refl
@@ -238,6 +241,7 @@ all_words Gen ws = refl
 all_words Clients ws = refl
 all_words Dump ws = refl
 all_words Load ws = refl
+all_words Pack ws = refl
 
 pub option_words : (c : CommandWord) → AreNames (option_names c)
 option_words Format = (
@@ -256,6 +260,7 @@ option_words Gen = (record { apart = refl; joined = λ v. refl; apart_fits = ref
 option_words Clients = (record { apart = refl; joined = λ v. refl; apart_fits = refl; joined_fits = λ v. refl; not_volume = refl }, tt)
 option_words Dump = tt
 option_words Load = tt
+option_words Pack = tt
 
 -- clap's faults are those of the walk over the words
 pub fault_is : (c : CommandWord) (ws : List Text)

@@ -12,7 +12,7 @@ use Rattle.command_words.specs.Wishes.{AreNumbers, Asks, AsksOn, IsGiven, Means,
 use Rattle.command_words.specs.declared.commands.CommandWord.{CommandWord}
 use Rattle.command_words.specs.declared.commands.CommandWord.TheVariants as word
 use Rattle.command_words.specs.declared.wish.Wish.{Wish}
-use Rattle.command_words.specs.declared.wish.Wish.TheVariants.{Format, Run, Check, Gen, Clients, Dump, Load}
+use Rattle.command_words.specs.declared.wish.Wish.TheVariants.{Format, Run, Check, Gen, Clients, Dump, Load, Pack}
 use Rattle.command_words.proofs.OptionFacts.{option_words}
 use Rattle.command_words.proofs.Readings.{one_list, one_number}
 
@@ -29,6 +29,7 @@ same_command word.Format word.Gen e = apart_texts (text_of word.Format) (text_of
 same_command word.Format word.Clients e = apart_texts (text_of word.Format) (text_of word.Clients) refl e
 same_command word.Format word.Dump e = apart_texts (text_of word.Format) (text_of word.Dump) refl e
 same_command word.Format word.Load e = apart_texts (text_of word.Format) (text_of word.Load) refl e
+same_command word.Format word.Pack e = apart_texts (text_of word.Format) (text_of word.Pack) refl e
 same_command word.Run word.Format e = apart_texts (text_of word.Run) (text_of word.Format) refl e
 same_command word.Run word.Run e = refl
 same_command word.Run word.Check e = apart_texts (text_of word.Run) (text_of word.Check) refl e
@@ -36,6 +37,7 @@ same_command word.Run word.Gen e = apart_texts (text_of word.Run) (text_of word.
 same_command word.Run word.Clients e = apart_texts (text_of word.Run) (text_of word.Clients) refl e
 same_command word.Run word.Dump e = apart_texts (text_of word.Run) (text_of word.Dump) refl e
 same_command word.Run word.Load e = apart_texts (text_of word.Run) (text_of word.Load) refl e
+same_command word.Run word.Pack e = apart_texts (text_of word.Run) (text_of word.Pack) refl e
 same_command word.Check word.Format e = apart_texts (text_of word.Check) (text_of word.Format) refl e
 same_command word.Check word.Run e = apart_texts (text_of word.Check) (text_of word.Run) refl e
 same_command word.Check word.Check e = refl
@@ -43,6 +45,7 @@ same_command word.Check word.Gen e = apart_texts (text_of word.Check) (text_of w
 same_command word.Check word.Clients e = apart_texts (text_of word.Check) (text_of word.Clients) refl e
 same_command word.Check word.Dump e = apart_texts (text_of word.Check) (text_of word.Dump) refl e
 same_command word.Check word.Load e = apart_texts (text_of word.Check) (text_of word.Load) refl e
+same_command word.Check word.Pack e = apart_texts (text_of word.Check) (text_of word.Pack) refl e
 same_command word.Gen word.Format e = apart_texts (text_of word.Gen) (text_of word.Format) refl e
 same_command word.Gen word.Run e = apart_texts (text_of word.Gen) (text_of word.Run) refl e
 same_command word.Gen word.Check e = apart_texts (text_of word.Gen) (text_of word.Check) refl e
@@ -50,6 +53,7 @@ same_command word.Gen word.Gen e = refl
 same_command word.Gen word.Clients e = apart_texts (text_of word.Gen) (text_of word.Clients) refl e
 same_command word.Gen word.Dump e = apart_texts (text_of word.Gen) (text_of word.Dump) refl e
 same_command word.Gen word.Load e = apart_texts (text_of word.Gen) (text_of word.Load) refl e
+same_command word.Gen word.Pack e = apart_texts (text_of word.Gen) (text_of word.Pack) refl e
 same_command word.Clients word.Format e = apart_texts (text_of word.Clients) (text_of word.Format) refl e
 same_command word.Clients word.Run e = apart_texts (text_of word.Clients) (text_of word.Run) refl e
 same_command word.Clients word.Check e = apart_texts (text_of word.Clients) (text_of word.Check) refl e
@@ -57,6 +61,7 @@ same_command word.Clients word.Gen e = apart_texts (text_of word.Clients) (text_
 same_command word.Clients word.Clients e = refl
 same_command word.Clients word.Dump e = apart_texts (text_of word.Clients) (text_of word.Dump) refl e
 same_command word.Clients word.Load e = apart_texts (text_of word.Clients) (text_of word.Load) refl e
+same_command word.Clients word.Pack e = apart_texts (text_of word.Clients) (text_of word.Pack) refl e
 same_command word.Dump word.Format e = apart_texts (text_of word.Dump) (text_of word.Format) refl e
 same_command word.Dump word.Run e = apart_texts (text_of word.Dump) (text_of word.Run) refl e
 same_command word.Dump word.Check e = apart_texts (text_of word.Dump) (text_of word.Check) refl e
@@ -64,6 +69,7 @@ same_command word.Dump word.Gen e = apart_texts (text_of word.Dump) (text_of wor
 same_command word.Dump word.Clients e = apart_texts (text_of word.Dump) (text_of word.Clients) refl e
 same_command word.Dump word.Dump e = refl
 same_command word.Dump word.Load e = apart_texts (text_of word.Dump) (text_of word.Load) refl e
+same_command word.Dump word.Pack e = apart_texts (text_of word.Dump) (text_of word.Pack) refl e
 same_command word.Load word.Format e = apart_texts (text_of word.Load) (text_of word.Format) refl e
 same_command word.Load word.Run e = apart_texts (text_of word.Load) (text_of word.Run) refl e
 same_command word.Load word.Check e = apart_texts (text_of word.Load) (text_of word.Check) refl e
@@ -71,6 +77,15 @@ same_command word.Load word.Gen e = apart_texts (text_of word.Load) (text_of wor
 same_command word.Load word.Clients e = apart_texts (text_of word.Load) (text_of word.Clients) refl e
 same_command word.Load word.Dump e = apart_texts (text_of word.Load) (text_of word.Dump) refl e
 same_command word.Load word.Load e = refl
+same_command word.Load word.Pack e = apart_texts (text_of word.Load) (text_of word.Pack) refl e
+same_command word.Pack word.Format e = apart_texts (text_of word.Pack) (text_of word.Format) refl e
+same_command word.Pack word.Run e = apart_texts (text_of word.Pack) (text_of word.Run) refl e
+same_command word.Pack word.Check e = apart_texts (text_of word.Pack) (text_of word.Check) refl e
+same_command word.Pack word.Gen e = apart_texts (text_of word.Pack) (text_of word.Gen) refl e
+same_command word.Pack word.Clients e = apart_texts (text_of word.Pack) (text_of word.Clients) refl e
+same_command word.Pack word.Dump e = apart_texts (text_of word.Pack) (text_of word.Dump) refl e
+same_command word.Pack word.Load e = apart_texts (text_of word.Pack) (text_of word.Load) refl e
+same_command word.Pack word.Pack e = refl
 
 module _ {words rest : List Text} {first volume : Text} {numbers : List (Option ℕ)} (command : CommandWord) (named : words ≡ first ∷ rest) (text : text_of command ≡ first)
     (given : IsGiven (option_names command) rest volume numbers) where
@@ -129,6 +144,7 @@ one_wish words (Format g) (Gen seed count) a b = other_command word.Format word.
 one_wish words (Format g) (Clients most) a b = other_command word.Format word.Clients refl (same_rest (Format g) (Clients most) a b).1
 one_wish words (Format g) Dump a b = other_command word.Format word.Dump refl (same_rest (Format g) Dump a b).1
 one_wish words (Format g) Load a b = other_command word.Format word.Load refl (same_rest (Format g) Load a b).1
+one_wish words (Format g) Pack a b = other_command word.Format word.Pack refl (same_rest (Format g) Pack a b).1
 one_wish words (Run most) (Format g) a b = other_command word.Run word.Format refl (same_rest (Run most) (Format g) a b).1
 one_wish words (Run most) (Run more) a b =
     let rest = (same_rest (Run most) (Run more) a b).0 in
@@ -139,6 +155,7 @@ one_wish words (Run most) (Gen seed count) a b = other_command word.Run word.Gen
 one_wish words (Run most) (Clients more) a b = other_command word.Run word.Clients refl (same_rest (Run most) (Clients more) a b).1
 one_wish words (Run most) Dump a b = other_command word.Run word.Dump refl (same_rest (Run most) Dump a b).1
 one_wish words (Run most) Load a b = other_command word.Run word.Load refl (same_rest (Run most) Load a b).1
+one_wish words (Run most) Pack a b = other_command word.Run word.Pack refl (same_rest (Run most) Pack a b).1
 one_wish words Check (Format g) a b = other_command word.Check word.Format refl (same_rest Check (Format g) a b).1
 one_wish words Check (Run most) a b = other_command word.Check word.Run refl (same_rest Check (Run most) a b).1
 one_wish words Check Check a b = refl
@@ -146,6 +163,7 @@ one_wish words Check (Gen seed count) a b = other_command word.Check word.Gen re
 one_wish words Check (Clients most) a b = other_command word.Check word.Clients refl (same_rest Check (Clients most) a b).1
 one_wish words Check Dump a b = other_command word.Check word.Dump refl (same_rest Check Dump a b).1
 one_wish words Check Load a b = other_command word.Check word.Load refl (same_rest Check Load a b).1
+one_wish words Check Pack a b = other_command word.Check word.Pack refl (same_rest Check Pack a b).1
 one_wish words (Gen seed count) (Format g) a b = other_command word.Gen word.Format refl (same_rest (Gen seed count) (Format g) a b).1
 one_wish words (Gen seed count) (Run most) a b = other_command word.Gen word.Run refl (same_rest (Gen seed count) (Run most) a b).1
 one_wish words (Gen seed count) Check a b = other_command word.Gen word.Check refl (same_rest (Gen seed count) Check a b).1
@@ -158,6 +176,7 @@ one_wish words (Gen seed count) (Gen other many) a b =
 one_wish words (Gen seed count) (Clients most) a b = other_command word.Gen word.Clients refl (same_rest (Gen seed count) (Clients most) a b).1
 one_wish words (Gen seed count) Dump a b = other_command word.Gen word.Dump refl (same_rest (Gen seed count) Dump a b).1
 one_wish words (Gen seed count) Load a b = other_command word.Gen word.Load refl (same_rest (Gen seed count) Load a b).1
+one_wish words (Gen seed count) Pack a b = other_command word.Gen word.Pack refl (same_rest (Gen seed count) Pack a b).1
 one_wish words (Clients most) (Format g) a b = other_command word.Clients word.Format refl (same_rest (Clients most) (Format g) a b).1
 one_wish words (Clients more) (Run most) a b = other_command word.Clients word.Run refl (same_rest (Clients more) (Run most) a b).1
 one_wish words (Clients most) Check a b = other_command word.Clients word.Check refl (same_rest (Clients most) Check a b).1
@@ -168,6 +187,7 @@ one_wish words (Clients most) (Clients more) a b =
     ap (λ (n : ℕ). Clients n) (a.gives ∙ ap (λ o. unwrap_or o 1099511627776) (number (codes "max-bytes") (inl refl)) ∙ sym b.gives)
 one_wish words (Clients most) Dump a b = other_command word.Clients word.Dump refl (same_rest (Clients most) Dump a b).1
 one_wish words (Clients most) Load a b = other_command word.Clients word.Load refl (same_rest (Clients most) Load a b).1
+one_wish words (Clients most) Pack a b = other_command word.Clients word.Pack refl (same_rest (Clients most) Pack a b).1
 one_wish words Dump (Format g) a b = other_command word.Dump word.Format refl (same_rest Dump (Format g) a b).1
 one_wish words Dump (Run most) a b = other_command word.Dump word.Run refl (same_rest Dump (Run most) a b).1
 one_wish words Dump Check a b = other_command word.Dump word.Check refl (same_rest Dump Check a b).1
@@ -175,6 +195,7 @@ one_wish words Dump (Gen seed count) a b = other_command word.Dump word.Gen refl
 one_wish words Dump (Clients most) a b = other_command word.Dump word.Clients refl (same_rest Dump (Clients most) a b).1
 one_wish words Dump Dump a b = refl
 one_wish words Dump Load a b = other_command word.Dump word.Load refl (same_rest Dump Load a b).1
+one_wish words Dump Pack a b = other_command word.Dump word.Pack refl (same_rest Dump Pack a b).1
 one_wish words Load (Format g) a b = other_command word.Load word.Format refl (same_rest Load (Format g) a b).1
 one_wish words Load (Run most) a b = other_command word.Load word.Run refl (same_rest Load (Run most) a b).1
 one_wish words Load Check a b = other_command word.Load word.Check refl (same_rest Load Check a b).1
@@ -182,3 +203,12 @@ one_wish words Load (Gen seed count) a b = other_command word.Load word.Gen refl
 one_wish words Load (Clients most) a b = other_command word.Load word.Clients refl (same_rest Load (Clients most) a b).1
 one_wish words Load Dump a b = other_command word.Load word.Dump refl (same_rest Load Dump a b).1
 one_wish words Load Load a b = refl
+one_wish words Load Pack a b = other_command word.Load word.Pack refl (same_rest Load Pack a b).1
+one_wish words Pack (Format g) a b = other_command word.Pack word.Format refl (same_rest Pack (Format g) a b).1
+one_wish words Pack (Run most) a b = other_command word.Pack word.Run refl (same_rest Pack (Run most) a b).1
+one_wish words Pack Check a b = other_command word.Pack word.Check refl (same_rest Pack Check a b).1
+one_wish words Pack (Gen seed count) a b = other_command word.Pack word.Gen refl (same_rest Pack (Gen seed count) a b).1
+one_wish words Pack (Clients most) a b = other_command word.Pack word.Clients refl (same_rest Pack (Clients most) a b).1
+one_wish words Pack Dump a b = other_command word.Pack word.Dump refl (same_rest Pack Dump a b).1
+one_wish words Pack Load a b = other_command word.Pack word.Load refl (same_rest Pack Load a b).1
+one_wish words Pack Pack a b = refl

@@ -9,7 +9,7 @@ use Rattle.command_words.specs.Commands.{text_of, option_names}
 use Rattle.command_words.specs.declared.commands.CommandWord.{CommandWord}
 use Rattle.command_words.specs.declared.commands.CommandWord.TheVariants as word
 use Rattle.command_words.specs.declared.wish.Wish.{Wish}
-use Rattle.command_words.specs.declared.wish.Wish.TheVariants.{Format, Run, Check, Gen, Clients, Dump, Load}
+use Rattle.command_words.specs.declared.wish.Wish.TheVariants.{Format, Run, Check, Gen, Clients, Dump, Load, Pack}
 
 -- the bytes of each word
 abbrev pub texts : List (String Global) → List Text
@@ -24,6 +24,7 @@ command_of (Gen seed count) = word.Gen
 command_of (Clients most) = word.Clients
 command_of Dump = word.Dump
 command_of Load = word.Load
+command_of Pack = word.Pack
 
 -- The sizes that are given, or their defaults, are those of this geometry. Each geometry keeps its limits.
 pub record IsGeometryOf (page_size pages segs seg_len fan : Option ℕ) (g : Geometry) : Type 0 where
@@ -56,6 +57,7 @@ Gives items (Gen seed count) = GivesGenerator items seed count
 Gives items (Clients most) = most ≡ unwrap_or (number_given (codes "max-bytes") items) 1099511627776
 Gives items Dump = ⊤
 Gives items Load = ⊤
+Gives items Pack = ⊤
 
 -- The words are the wish's command, with one volume and options that give what the wish says.
 pub record Asks (words : List Text) (wish : Wish) : Type 0 where
@@ -88,6 +90,7 @@ bytes_made (Gen seed count) = None
 bytes_made (Clients most) = None
 bytes_made Dump = None
 bytes_made Load = None
+bytes_made Pack = None
 
 -- The words ask for something on the volume of this name, and for a volume of so many bytes to be made, or for none.
 pub record NamesFile (words : List Text) (path : Text) (make : Option ℕ) : Type 0 where

@@ -19,6 +19,8 @@ pub enum CommandWord {
     Dump,
     /// Opens a volume that is empty and reads a stream of a history into it.
     Load,
+    /// Opens a volume and moves its trees to the lowest units of the segment area.
+    Pack,
 }
 
 impl CommandWord {
@@ -35,6 +37,7 @@ impl CommandWord {
             "clients" => Some(CommandWord::Clients),
             "dump" => Some(CommandWord::Dump),
             "load" => Some(CommandWord::Load),
+            "pack" => Some(CommandWord::Pack),
             _ => None,
         }
     }
@@ -51,6 +54,7 @@ impl CommandWord {
             CommandWord::Clients => "clients",
             CommandWord::Dump => "dump",
             CommandWord::Load => "load",
+            CommandWord::Pack => "pack",
         }
     }
 
@@ -61,7 +65,7 @@ impl CommandWord {
         match self {
             CommandWord::Format => &["page-size", "pages", "segs", "seg-len", "fan"],
             CommandWord::Run | CommandWord::Clients => &["max-bytes"],
-            CommandWord::Check | CommandWord::Dump | CommandWord::Load => &[],
+            CommandWord::Check | CommandWord::Dump | CommandWord::Load | CommandWord::Pack => &[],
             CommandWord::Gen => &["seed", "count"],
         }
     }

@@ -77,7 +77,7 @@ fn bytes_made(wish: Wish) -> Option<u64>
     match wish {
         Wish::Format(geometry) => Some(geometry.volume_bytes()),
         Wish::Run { .. } | Wish::Check | Wish::Gen { .. } | Wish::Clients { .. } => None,
-        Wish::Dump | Wish::Load => None,
+        Wish::Dump | Wish::Load | Wish::Pack => None,
     }
 }
 
@@ -114,6 +114,7 @@ fn wish_by(command: CommandWord, numbers: &[Option<u64>]) -> Option<Wish>
         CommandWord::Clients => clients_by(numbers),
         CommandWord::Dump => Some(Wish::Dump),
         CommandWord::Load => Some(Wish::Load),
+        CommandWord::Pack => Some(Wish::Pack),
     }
 }
 

@@ -18,4 +18,6 @@ pub enum Wish {
     Dump,
     /// To open a volume that is empty and to read a stream of a history into it.
     Load,
+    /// To open a volume and to move its trees to the lowest units of the segment area.
+    Pack,
 }

@@ -202,6 +202,12 @@ fn each_status_has_its_reason(rt: HostRuntime) -> Result<(), Fail> {
             "standard output: No space left on device (os error 28); the dump is loaded",
         ),
         (
+            "pack v",
+            Status::OutputFault,
+            system,
+            "standard output: No space left on device (os error 28); the volume is packed",
+        ),
+        (
             "run v",
             Status::DiskFault,
             missing,

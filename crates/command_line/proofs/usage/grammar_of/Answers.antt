@@ -30,3 +30,7 @@ returns-in-Dump c = ap grammar_text (sym c.in-Dump.is)
 pub returns-in-Load : goal.returns-in-Load
 unfolding grammar_text digits
 returns-in-Load c = ap grammar_text (sym c.in-Load.is)
+
+pub returns-in-Pack : goal.returns-in-Pack
+unfolding grammar_text digits
+returns-in-Pack c = ap grammar_text (sym c.in-Pack.is)
