@@ -1,5 +1,5 @@
 -- What `dump` promises.
-use Rattle.std.proofs.Common.{◌≡◌, ◌≢◌, ◌∙◌, ◌⊎◌, ⊎_elim, ◌≤◌, ℕ, List, Some, inl, inr, refl, sym, ap, subst, arith, IsTrue}
+use Rattle.std.proofs.Common.{◌≡◌, ◌≢◌, ◌∙◌, ◌⊎◌, ⊎_elim, ◌≤◌, ℕ, List, [], Some, inl, inr, refl, sym, ap, subst, arith, IsTrue}
 use Rattle.ex_base.specs.Sizes.{volume_bytes}
 use Rattle.ex_base.specs.declared.names.PageNo.{PageNo}
 use Rattle.ex_base.specs.declared.faults.Seen.{Seen}
@@ -10,6 +10,7 @@ use Rattle.session_views.specs.declared.part.Part.{Part}
 use Rattle.session_views.specs.Opening.{StandsOpening}
 use Rattle.talks.proofs.Whole.{leaves_table}
 use Rattle.session_core.specs.Meant.{meant}
+use Rattle.volume_model.specs.Committed.{with_records}
 use Rattle.volume_model.specs.CrashImage.{agrees_stands}
 use Rattle.volume_model.specs.Parts.{StandsFor}
 use Rattle.volume_model.specs.Volume.{Decoded, table_of, units_of}
@@ -42,12 +43,15 @@ can_read size volume opened room =
 
 -- It rests with the table for which the image stood.
 pub rests_with : {w : Outside} (image : List ℕ) (table : Table) (volume : VolumeState) → StandsFor image table → RestsAs image w volume → RestsWith table w volume
-rests_with image table volume stands opened = record {
-  decoded = opened.decoded;
-  disk = opened.disk;
-  rests = opened.rests;
-  table_is = one_table image (table_of (units_of opened.decoded opened.disk) opened.decoded.volume) table opened.stood stands;
-}
+rests_with image table volume stands opened =
+    let d = opened.decoded in
+    let later = with_records d [] d.volume in
+    record {
+      decoded = later;
+      disk = opened.disk;
+      rests = opened.rests;
+      table_is = one_table image (table_of (units_of later opened.disk) d.volume) table (record { decoded = d; parts = opened.parts; same = opened.same.table }) stands;
+    }
 
 -- A crash now leaves its table.
 rests_stands : {w : Outside} {table : Table} {volume : VolumeState} → RestsWith table w volume → (d : List ℕ) → w.images d → StandsFor d table

@@ -45,7 +45,7 @@ shows_opened {w} p image table parts honest on stands =
     let used = used_at p.units in
     let refs = refs_at p.units in
     let committed : Committed w.images later on.disk p.log [] = subst (λ (rows : List PageRow). Committed w.images later on.disk p.log rows) parts.images on.committed in
-    let opened : OpenedView w.images later on.disk p.log used refs (is_held p.pages) table = opened_view d on.was stands committed on.table on.knows on.owned in
+    let opened : OpenedView w.images later on.disk p.log used refs (is_held p.pages) table = opened_view d on.was stands committed on.same.table on.knows on.owned in
     let machine = machine_of d (units_of later on.disk) used in
     let same : record { machine = machine; session = held (fresh_session p); disk = on.disk } ≡ fresh_view later on.disk p.log used refs (is_held p.pages) =
     ap (λ (h : Held). the_view machine h on.disk) (held_is p parts ∙ ap (λ (g : Geometry). fresh_held g p.log used refs (is_held p.pages)) (sym on.geometry)) in

@@ -6,7 +6,7 @@ ghost use Rattle.table_model.specs.declared.table.Table.{Table};
 ghost use Rattle.session_views.specs.Opening.{StandsOpening};
 ghost use Rattle.session_core.specs.Meant.{meant};
 ghost use Rattle.volume_model.specs.Parts.{StandsFor};
-ghost use Rattle.restart.specs.Opening.{AreOpened};
+ghost use Rattle.restart.specs.Opening.{AreOpened, HoldsAs, RestsAs};
 ghost use Rattle.exsm_run.specs.Check.{StopsCount, unopened_status};
 ghost use Rattle.exsm_run.specs.Openings.{OpeningPromise, RestsWith};
 ghost use Rattle.exsm_run.specs.Script.{HoldsVolume};
@@ -42,6 +42,10 @@ pub(crate) fn opened<H: Host>(alloc: Global, host: &mut H) -> Result<VolumeState
     ensures rests { (table : Table) (was : List ℕ) → HoldsVolume (H.outside host.old) table was
         → MatchResult result (RestsWith table (H.outside host.new))
         (λ status. (status ≡ Status.DiskFault) ⊎ (status ≡ Status.Memory)) }
+    ensures same { IfOk result (λ volume. (image : List ℕ) → IsTrue (H.outside host.old).honest
+        → (H.outside host.old).disk ≡ Some image → RestsAs image (H.outside host.new) volume) }
+    ensures holds { (image : List ℕ) → IsTrue (H.outside host.old).honest
+        → (H.outside host.old).disk ≡ Some image → HoldsAs image (H.outside host.new) }
     ensures stood { OnOk result ((image : List ℕ) → (H.outside host.old).disk ≡ Some image
         → (table : Table) × StandsFor image table) }
     ensures any_moment { (image : List ℕ) → IsTrue (H.outside host.old).honest

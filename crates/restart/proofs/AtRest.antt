@@ -46,7 +46,8 @@ pub rests_as : {w : Outside} (image : List ℕ) (p : VolumeState) → AreOpened 
 rests_as {w} image p opened honest room on =
     let told = fresh_tells p.geometry w p.groups on.disk opened.fresh.groups on.holds in
     record {
-      decoded = with_records on.decoded [] on.decoded.volume;
+      decoded = on.decoded;
+      parts = on.was;
       disk = on.disk;
       rests = record {
         told = (honest, told.0, told.1);
@@ -61,5 +62,5 @@ rests_as {w} image p opened honest room on =
         owned = on.owned;
         kept = opened.fresh.kept;
       };
-      stood = record { decoded = on.decoded; parts = on.was; same = on.table };
+      same = on.same;
     }

@@ -1,5 +1,5 @@
 -- A volume that was read, and then opened.
-use Rattle.std.proofs.Common.{◌≡◌, ◌≤◌, ◌<◌, ◌↔◌, ℕ, Bool, true, inl, inr, ⊎_elim, List, [], ◌∷◌, length, nat_eq, Option, Some, IsTrue, unwrap_or, refl, sym, ap, subst, ◌∙◌, arith}
+use Rattle.std.proofs.Common.{◌≡◌, ◌≤◌, ◌<◌, ◌↔◌, ℕ, Bool, true, inl, inr, ⊎_elim, List, [], ◌∷◌, length, nat_eq, Option, Some, is_some, IsTrue, unwrap_or, refl, sym, ap, subst, ◌∙◌, arith}
 use Rattle.std.specs.Prelude.{Contains}
 use Rattle.std.specs.List.{AllByRecursion}
 use Rattle.std.specs.Map.{lookup}
@@ -10,7 +10,7 @@ use Rattle.ex_base.specs.Area.{catalog_no, page_at}
 use Rattle.ex_base.proofs.Each.{each_from}
 use Rattle.buffer_groups.specs.Frames.{Frames}
 use Rattle.disk_model.specs.Outside.{Outside, IsWorld, Leaves, WritesNothing}
-use Rattle.disk_model.specs.Runs.{honest_on, leaves_start, leaves_quiet, leaves_trans, leaves_wider}
+use Rattle.disk_model.specs.Runs.{honest_on, leaves_start, leaves_quiet, leaves_trans, leaves_wider, told_value}
 use Rattle.meta_pages.specs.Homes.{homes_forgotten}
 use Rattle.meta_pages.specs.Overlays.{Overlays, committed_image, image_at, over}
 use Rattle.object_files.specs.Catalog.{Catalog}
@@ -27,6 +27,7 @@ use Rattle.volume_model.specs.FreshView.{KnowsUnits, OwnsUnits}
 use Rattle.volume_model.specs.Parts.{Decodes, HasRecords, HoldsOf, StandsFor, SuperOf, content_parts}
 use Rattle.volume_model.specs.SameVolume.{reach_kept}
 use Rattle.trees.specs.Owners.{root_pages}
+use Rattle.trees.proofs.SameUnits.{Kept}
 use Rattle.volume_model.specs.Volume.{Decoded, file_pages, reach_of, roots_in, stored_in, table_of, units_after, units_of}
 use Rattle.volume_port.specs.Logged.{is_held}
 use Rattle.restart.proofs.BadParts.{decoded_as, whole}
@@ -35,7 +36,7 @@ use Rattle.restart.specs.declared.content.Reached.{Reached}
 use Rattle.restart.proofs.Owners.{owned_kept}
 use Rattle.restart.specs.Content.{FilesReached, volume_of}
 use Rattle.volume_model.specs.Homes.{home}
-use Rattle.restart.specs.Opening.{HasCatalog, OpenedOn, OpensAs, ReadsAs, empty_main}
+use Rattle.restart.specs.Opening.{HasCatalog, HoldsAs, OpenedOn, OpensAs, ReadsAs, empty_main}
 
 -- the page that was read is the one after the log
 pub page_after_log : (g : Geometry) (image : List ℕ) (records : List LogRecord) (m : Overlays) (page : List ℕ) → ((p : ℕ) → committed_image m p ≡ logged records p)
@@ -89,12 +90,16 @@ none_logged g records m m' log just same counts none =
 
 -- ---- what a volume reaches, after a checkpoint
 
-same_reach_after : (d : Decoded) (image later : List ℕ) → AllByRecursion (HoldsOf d.geometry d.records (units_of d image) d.volume) content_parts → SameAfterLog d image [] later
-    → reach_of (units_of (with_records d [] d.volume) later) d.volume ≡ reach_of (units_of d image) d.volume
-same_reach_after d image later content same =
+pub kept_after : (d : Decoded) (image later : List ℕ) → AllByRecursion (HoldsOf d.geometry d.records (units_of d image) d.volume) content_parts → SameAfterLog d image [] later
+    → Kept (units_of d image) (units_of (with_records d [] d.volume) later) (reach_of (units_of d image) d.volume)
+kept_after d image later content same =
     let old = units_of d image in
     let new = units_of (with_records d [] d.volume) later in
-    reach_kept old new d.volume (each_from (λ u. new u ≡ old u) (reach_of old d.volume) (λ u reached. same.pages u (reach_behind d.geometry old d.volume u (without_last d.geometry d.records old d.volume content) reached)))
+    each_from (λ u. new u ≡ old u) (reach_of old d.volume) (λ u reached. same.pages u (reach_behind d.geometry old d.volume u (without_last d.geometry d.records old d.volume content) reached))
+
+pub same_reach_after : (d : Decoded) (image later : List ℕ) → AllByRecursion (HoldsOf d.geometry d.records (units_of d image) d.volume) content_parts → SameAfterLog d image [] later
+    → reach_of (units_of (with_records d [] d.volume) later) d.volume ≡ reach_of (units_of d image) d.volume
+same_reach_after d image later content same = reach_kept (units_of d image) (units_of (with_records d [] d.volume) later) d.volume (kept_after d image later content same)
 
 -- ---- up to the checkpoint
 
@@ -142,10 +147,29 @@ opened_on w image g log log' rows rows' used refs held reads done = record {
   was = reads.parts;
   holds = done.1;
   committed = done.2.committed;
-  table = done.2.same.table;
+  same = done.2.same;
   knows = still_knows reads.decoded image done.0 used held reads.parts done.2.same reads.knows;
   owned = owned_at_home reads.decoded image done.0 used refs done.2.same reads.owned;
 }
+
+-- ---- what the disk holds
+
+-- where nothing was written
+pub holds_still : (w : Outside) (image : List ℕ) → w.disk ≡ Some image → HoldsAs image w
+holds_still w image is = (image, is, inl refl)
+
+-- while a checkpoint is made, whether it comes to its end or not
+pub holds_same : (a b : Outside) (image : List ℕ) (d : Decoded) → IsWorld b → Decodes image d → a.disk ≡ Some image → is_some b.disk ≡ is_some a.disk → Leaves a b (StandsForVolume d image) → HoldsAs image b
+holds_same a b image d world parts holds told leaves =
+    let now = told_value b.disk (told ∙ ap is_some holds) in (
+      now.0,
+      now.1,
+      inr (record {
+        table = table_of (units_of d image) d.volume;
+        was = record { decoded = d; parts = parts; same = refl };
+        stands = leaves.now now.0 (world.held_may_stay now.0 now.1);
+      }),
+    )
 
 -- ---- the parts
 

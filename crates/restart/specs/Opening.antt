@@ -11,7 +11,7 @@ use Rattle.volume_port.specs.declared.state.VolumeState.{VolumeState}
 use Rattle.volume_port.specs.State.{IsAtRest}
 use Rattle.restart.specs.Content.{IsReached}
 use Rattle.volume_model.specs.Homes.{home}
-use Rattle.volume_model.specs.Committed.{Committed, OverlayOf, with_records}
+use Rattle.volume_model.specs.Committed.{Committed, OverlayOf, SameAfterLog, with_records}
 use Rattle.volume_model.specs.FreshView.{KnowsUnits, OwnsUnits}
 use Rattle.volume_model.specs.Parts.{Decodes, StandsFor}
 use Rattle.volume_model.specs.Volume.{Decoded, table_of, units_of}
@@ -67,16 +67,17 @@ pub record OpenedOn (image : List ℕ) (g : Geometry) (w : Outside) (log : LogSt
   pub was : Decodes image decoded
   pub holds : w.disk ≡ Some disk
   pub committed : Committed w.images (with_records decoded [] decoded.volume) disk log overlay
-  pub table : table_of (units_of (with_records decoded [] decoded.volume) disk) decoded.volume ≡ table_of (units_of decoded image) decoded.volume
+  pub same : SameAfterLog decoded image [] disk
   pub knows : KnowsUnits (with_records decoded [] decoded.volume) disk used held
   pub owned : OwnsUnits decoded.geometry (home decoded.geometry disk) decoded.volume used refs
 
--- The volume is at rest, with the table that the image stood for.
+-- The volume is at rest, as the image decoded: with no record in its log, and the same in each page after the log.
 pub record RestsAs (image : List ℕ) (w : Outside) (p : VolumeState) : Type 0 where
   pub decoded : Decoded
+  pub parts : Decodes image decoded
   pub disk : List ℕ
-  pub rests : IsAtRest w p decoded disk
-  pub stood : StandsFor image (table_of (units_of decoded disk) decoded.volume)
+  pub rests : IsAtRest w p (with_records decoded [] decoded.volume) disk
+  pub same : SameAfterLog decoded image [] disk
 
 -- The image stands for a table for which the other one stands too.
 pub record StandsForSame (image other : List ℕ) : Type 0 where
@@ -87,3 +88,7 @@ pub record StandsForSame (image other : List ℕ) : Type 0 where
 -- What a crash in an opening leaves: what one could leave before, or the volume as it reads, or what stands for its table.
 abbrev pub OpensAs : (List ℕ → Type 0) → List ℕ → List ℕ → Type 0
 OpensAs before image other = before other ⊎ ((other ≡ image) ⊎ StandsForSame image other)
+
+-- The disk holds the image, or what stands for its table.
+abbrev pub HoldsAs : List ℕ → Outside → Type 0
+HoldsAs image w = (other : List ℕ) × (w.disk ≡ Some other) × ((other ≡ image) ⊎ StandsForSame image other)

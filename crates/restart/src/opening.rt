@@ -14,7 +14,7 @@ ghost use Rattle.page_alloc.specs.UnitSet.{used_at, refs_at};
 ghost use Rattle.volume_model.specs.Parts.{SuperOf, FirstBad, StandsFor};
 ghost use Rattle.volume_port.specs.Logged.{is_held};
 ghost use Rattle.restart.specs.Content.{IsReached};
-ghost use Rattle.restart.specs.Opening.{AreFresh, AreOpened, OpenedOn, OpensAs, ReadsAs, RestsAs};
+ghost use Rattle.restart.specs.Opening.{AreFresh, AreOpened, HoldsAs, OpenedOn, OpensAs, ReadsAs, RestsAs};
 
 use crate::catalog::{read_catalog, test_catalog};
 use crate::content::Reached;
@@ -68,6 +68,10 @@ pub fn open_volume<D: Disk>(alloc: Global, disk: &mut D) -> Result<VolumeState, 
         → (D.outside disk.old).disk ≡ Some image
         → Leaves (D.outside disk.old) (D.outside disk.new)
         (OpensAs (D.outside disk.old).images image) }
+
+    // Whatever is answered, the disk holds what it held, or what stands for the same table.
+    ensures holds { (image : List ℕ) → IsTrue (D.outside disk.old).honest
+        → (D.outside disk.old).disk ≡ Some image → HoldsAs image (D.outside disk.new) }
 {
     let Ok(()) = disk.sync() else {
         return Err(OpenFault::Disk);

@@ -11,8 +11,8 @@ use Rattle.page_alloc.specs.UnitSet.{refs_at, used_at}
 use Rattle.volume_port.specs.Logged.{is_held}
 use Rattle.node_walk.proofs.Facts.{handed_err}
 use Rattle.restart.proofs.AtRest.{rests_as}
-use Rattle.restart.proofs.Opened.{all_closed, opened_on, opens_as, quiet_leaves, read_committed}
-use Rattle.restart.specs.Opening.{OpensAs, ReadsAs}
+use Rattle.restart.proofs.Opened.{all_closed, holds_same, holds_still, opened_on, opens_as, quiet_leaves, read_committed}
+use Rattle.restart.specs.Opening.{HoldsAs, OpensAs, ReadsAs}
 use Rattle.restart.proofs.opening.open_volume.Given as given
 use Rattle.restart.proofs.opening.open_volume.Goals as goal
 use Rattle.restart.proofs.opening.open_volume.Goals.{After-checkpoint}
@@ -121,3 +121,26 @@ returns-clause-rests g c image honest holds =
     let here = honest_on c.read_volume.ensures.only.nothing.only.goes (honest_on c.sync.ensures.only.only.goes honest) in
     rests_as image _ (returns-clause-parts g c) (honest_on c.checkpoint.ensures.only.goes here)
     (omega (arith, c.in_ok-parts.ensures.room, c.read_volume.ensures.only.nothing.only.goes.size, c.checkpoint.ensures.only.goes.size)) (returns-clause-opened g c image honest holds)
+
+-- ---- what the disk holds
+
+pub returns-in_default-clause-holds : goal.returns-in_default-clause-holds
+returns-in_default-clause-holds g c image honest holds = holds_still (g.D.World.outside c.sync.new.self) image (c.sync.ensures.only.disk ∙ holds)
+
+pub returns-in_err-parts-clause-holds : goal.returns-in_err-parts-clause-holds
+returns-in_err-parts-clause-holds g c image honest holds = holds_still (g.D.World.outside c.read_volume.new.disk) image (c.read_volume.ensures.only.nothing.disk ∙ (c.sync.ensures.only.disk ∙ holds))
+
+held : (g : given.Over) (c : After-checkpoint g) (image : List ℕ) → IsTrue (g.D.World.outside c.args.disk.now).honest → (g.D.World.outside c.args.disk.now).disk ≡ Some image
+    → HoldsAs image (g.D.World.outside c.checkpoint.new.disk)
+held g c image honest holds =
+    let read = reads g c image holds in
+    let here = honest_on c.read_volume.ensures.only.nothing.only.goes (honest_on c.sync.ensures.only.only.goes honest) in
+    let still = c.read_volume.ensures.only.nothing.disk ∙ (c.sync.ensures.only.disk ∙ holds) in
+    holds_same (g.D.World.outside c.read_volume.new.disk) (g.D.World.outside c.checkpoint.new.disk) image read.decoded (g.D.World.is_world c.checkpoint.new.disk) read.parts still c.checkpoint.ensures.only.goes.disk_told
+    (c.checkpoint.ensures.any_moment read.decoded image here still (committed g c image honest holds))
+
+pub returns-in_default-checkpoint-clause-holds : goal.returns-in_default-checkpoint-clause-holds
+returns-in_default-checkpoint-clause-holds g c = held g (goal.at.returns-in_default-checkpoint-clause-holds g c).After-checkpoint
+
+pub returns-clause-holds : goal.returns-clause-holds
+returns-clause-holds g c = held g (goal.at.returns-clause-holds g c).After-checkpoint
