@@ -7,5 +7,7 @@ mod Counting
 mod Checking
 mod Dumping
 mod Loading
+mod Entries
+mod Packing
 mod Generating
 mod Running

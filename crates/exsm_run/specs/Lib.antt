@@ -10,4 +10,5 @@ pub mod Clients
 pub mod Generate
 pub mod Dump
 pub mod Load
+pub mod Pack
 pub mod Promises

@@ -11,12 +11,13 @@ use Rattle.session_core.specs.Meant.{meant}
 use Rattle.command_line.specs.declared.status.Status.{Status}
 use Rattle.command_line.specs.declared.status.Status.TheVariants.{Damaged, Done, Memory, ScriptLong}
 use Rattle.command_words.specs.declared.wish.Wish.{Wish}
-use Rattle.command_words.specs.declared.wish.Wish.TheVariants.{Format, Run, Check, Gen, Clients, Dump, Load}
+use Rattle.command_words.specs.declared.wish.Wish.TheVariants.{Format, Run, Check, Gen, Clients, Dump, Load, Pack}
 use Rattle.exsm_run.specs.Check.{CheckPromise}
 use Rattle.exsm_run.specs.Clients.{ClientsPromise}
 use Rattle.exsm_run.specs.Dump.{DumpPromise}
 use Rattle.exsm_run.specs.Generate.{GenPromise}
 use Rattle.exsm_run.specs.Load.{LoadPromise}
+use Rattle.exsm_run.specs.Pack.{PackPromise}
 use Rattle.exsm_run.specs.EmptyVolume.{HasMagic}
 use Rattle.exsm_run.specs.Format.{FormatAnswers, FormatSends, IsFormatted, IsFormatMoment, MayFormat, WritesAlone}
 use Rattle.exsm_run.specs.Fresh.{IsFresh}
@@ -66,3 +67,4 @@ Promise outside (Gen seed count) before after status = GenPromise outside seed c
 Promise outside (Clients most) before after status = ClientsPromise outside most before after status
 Promise outside Dump before after status = DumpPromise before after status
 Promise outside Load before after status = LoadPromise before after status
+Promise outside Pack before after status = PackPromise before after status

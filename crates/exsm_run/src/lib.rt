@@ -7,6 +7,7 @@ mod format;
 mod generate;
 mod load;
 mod opening;
+mod pack;
 mod program;
 mod script;
 mod session;

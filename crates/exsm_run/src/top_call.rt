@@ -12,6 +12,7 @@ use crate::dump::dumped;
 use crate::format::format;
 use crate::generate::generate;
 use crate::load::loaded;
+use crate::pack::packed;
 use crate::script::run_script;
 use crate::session::VolumeSession;
 use crate::status::Status;
@@ -87,5 +88,6 @@ fn fulfil<H: Host>(alloc: Global, host: &mut H, wish: Wish) -> Status
         Wish::Clients { most } => run_script::<VolumeSession, Schedule, H>(alloc, host, most),
         Wish::Dump => dumped(alloc, host),
         Wish::Load => loaded(alloc, host),
+        Wish::Pack => packed(alloc, host),
     }
 }
