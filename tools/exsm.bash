@@ -20,8 +20,8 @@ _exsm_kept() {                                    # offers names that a volume k
 
 _exsm() {
     case $COMP_CWORD in
-    1) _exsm_offer "format run check gen clients dump load help --help --version" ;;
-    2) if [ "${COMP_WORDS[1]}" = help ]; then _exsm_offer "format run check gen clients dump load"; else _exsm_files_here; fi ;;
+    1) _exsm_offer "format run check gen clients dump load pack help --help --version" ;;
+    2) if [ "${COMP_WORDS[1]}" = help ]; then _exsm_offer "format run check gen clients dump load pack"; else _exsm_files_here; fi ;;
     *)
         if [ "${COMP_WORDS[COMP_CWORD - 1]}" = --page-size ]; then
             _exsm_offer "512 1024 2048 4096 8192"

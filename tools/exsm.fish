@@ -21,9 +21,10 @@ complete -c exsm -f -n '__exsm_at 1' -a gen -d 'steps generated lines'
 complete -c exsm -f -n '__exsm_at 1' -a clients -d 'steps the scripts of several clients'
 complete -c exsm -f -n '__exsm_at 1' -a dump -d 'writes the whole history as a stream'
 complete -c exsm -f -n '__exsm_at 1' -a load -d 'reads a stream into an empty volume'
+complete -c exsm -f -n '__exsm_at 1' -a pack -d 'moves objects to the front of the volume'
 complete -c exsm -f -n '__exsm_at 1' -a 'help --help' -d 'tells all words'
 complete -c exsm -f -n '__exsm_at 1' -a --version -d 'tells the version'
-complete -c exsm -f -n '__exsm_behind 2 help' -a 'format run check gen clients dump load'
+complete -c exsm -f -n '__exsm_behind 2 help' -a 'format run check gen clients dump load pack'
 complete -c exsm -n '__exsm_behind 2 format' -x -l page-size -a '512 1024 2048 4096 8192'
 complete -c exsm -n '__exsm_behind 2 format' -x -l pages
 complete -c exsm -n '__exsm_behind 2 format' -x -l segs

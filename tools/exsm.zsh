@@ -20,8 +20,8 @@ _exsm_words() {                                   # these words where the first 
 
 _exsm_program() {
     case "$CURRENT:$words[2]:$words[CURRENT-1]" in
-    2:*) compadd -- format run check gen clients dump load help --help --version ;;
-    3:help:*) compadd -- format run check gen clients dump load ;;
+    2:*) compadd -- format run check gen clients dump load pack help --help --version ;;
+    3:help:*) compadd -- format run check gen clients dump load pack ;;
     3:*) _files ;;
     *:format:--page-size) compadd -- 512 1024 2048 4096 8192 ;;
     *:format:*) compadd -- --page-size --pages --segs --seg-len --fan ;;

@@ -4,7 +4,7 @@
 # Tells all words, or those of one command: tell_help USAGE_FILE [COMMAND].
 tell_help() {
     case "${2-}" in
-    format | run | check | gen | clients | dump | load)
+    format | run | check | gen | clients | dump | load | pack)
         awk -v command="$2" '
             $1 == "usage:" { sub("usage:", "      ") }
             $1 == "exsm" { told = $2 == command; if (told) sub("      ", "usage:") }
@@ -18,7 +18,7 @@ tell_help() {
 asks_help() {
     case "${1-}" in
     help | --help | -h) true ;;
-    format | run | check | gen | clients | dump | load) [ "${2-}" = --help ] && [ $# = 2 ] ;;
+    format | run | check | gen | clients | dump | load | pack) [ "${2-}" = --help ] && [ $# = 2 ] ;;
     *) false ;;
     esac
 }
@@ -34,7 +34,7 @@ helped_command() {
 # Whether the first word is none that the program knows: that is wrong usage, whatever else the words are.
 is_unknown() {
     case "${1-}" in
-    "" | format | run | check | gen | clients | dump | load) false ;;
+    "" | format | run | check | gen | clients | dump | load | pack) false ;;
     *) true ;;
     esac
 }
@@ -62,7 +62,7 @@ near_command() {
         }
         BEGIN {
             best = 3
-            for (n = split("format run check gen clients dump load help", known, " "); n > 0; n--) {
+            for (n = split("format run check gen clients dump load pack help", known, " "); n > 0; n--) {
                 far = distance(word, known[n])
                 if (far < best && far * 2 < length(known[n]) + 1) { best = far; near = known[n] }
             }
@@ -73,7 +73,7 @@ near_command() {
 # What a first word that is no command may mean, or nothing: meant_by WORDS.
 meant_by() {
     case "${2-}" in
-    format | run | check | gen | clients | dump | load)
+    format | run | check | gen | clients | dump | load | pack)
         case "$1" in
         -*) ;;
         *) printf '%s %s' "$2" "$(printf %s "$1" | LC_ALL=C tr -cd '[:print:]')" && return ;;
@@ -90,6 +90,7 @@ meant_by() {
     client | serve | schedule) echo clients ;;
     export | backup | stream) echo dump ;;
     import | restore) echo load ;;
+    compact | defrag | vacuum) echo pack ;;
     *) near_command "$word" ;;
     esac
 }

@@ -17,7 +17,7 @@ from typing import Callable, NoReturn, Optional, Protocol, Union
 STATUS_NAMES = {
     2: "usage", 3: "script fault", 4: "output fault", 5: "disk fault", 6: "bad volume",
     7: "memory", 8: "damaged", 9: "already a volume", 10: "too small", 11: "script long",
-    12: "not empty", 13: "bad dump", 14: "misfit", 15: "no room",
+    12: "not empty", 13: "bad dump", 14: "misfit", 15: "no room", 16: "no pages",
 }
 """The program's statuses but 0, as the README has them."""
 

@@ -232,9 +232,9 @@ printf '%s\n' "${COMPREPLY[@]}"
 SIZES = ["--fan", "--page-size", "--pages", "--seg-len", "--segs"]
 COMPLETIONS = [
     ("exsm|", ["--help", "--version", "check", "clients", "dump", "format", "gen", "help", "load",
-              "run"]),
+              "pack", "run"]),
     ("exsm|f", ["format"]),
-    ("exsm|help|", ["check", "clients", "dump", "format", "gen", "load", "run"]),
+    ("exsm|help|", ["check", "clients", "dump", "format", "gen", "load", "pack", "run"]),
     ("exsm|run|", ["other", "v"]), ("exsm|check|", ["other", "v"]),
     ("exsm|format|v|", SIZES), ("exsm|format|v|--page-size|8", ["8192"]),
     ("exsm|format|v|--page-size|512|", SIZES), ("exsm|run|v|", ["--max-bytes"]),

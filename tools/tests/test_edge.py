@@ -39,10 +39,11 @@ CLIENTS = [
 ]
 DUMP = ["usage: exsm dump VOLUME > STREAM"]
 LOAD = ["usage: exsm load VOLUME < STREAM"]
+PACK = ["usage: exsm pack VOLUME"]
 USAGE = [
     *FORMAT,
     *(line.replace("usage:", "      ")
-      for line in [*RUN, *CHECK, *GEN, *CLIENTS, *DUMP, *LOAD]),
+      for line in [*RUN, *CHECK, *GEN, *CLIENTS, *DUMP, *LOAD, *PACK]),
 ]
 
 PAGE_SIZES = "512|1024|2048|4096|8192"
@@ -65,6 +66,8 @@ WORDS = [
     ("dump v --max-bytes 6", "'--max-bytes' is neither an option of dump nor a VOLUME", DUMP),
     ("load", "load takes a VOLUME, and no word names one", LOAD),
     ("load v --max-bytes 6", "'--max-bytes' is neither an option of load nor a VOLUME", LOAD),
+    ("pack", "pack takes a VOLUME, and no word names one", PACK),
+    ("pack v --segs 6", "'--segs' is neither an option of pack nor a VOLUME", PACK),
     ("format", "format takes a VOLUME, and no word names one", FORMAT),
     ("format --pages", "--pages takes 1..4000000, and no word is left", FORMAT),
     ("format v --page-size", f"--page-size takes {PAGE_SIZES}, and no word is left", FORMAT),
@@ -294,7 +297,7 @@ class Causes(InEdge):
         for words, line in (
                 *(([verb, name], f"{name}: {odd}")
                   for name in ("pipe", "/dev/null", "/dev/zero", "/dev/full")
-                  for verb in ("run", "check", "dump", "load", "format")),
+                  for verb in ("run", "check", "dump", "load", "pack", "format")),
                 (["run", "none"], "none: No such file or directory (os error 2) "
                                   "(exsm format makes a volume)"),
                 (["run", "folder"], "folder: Is a directory (os error 21)"),

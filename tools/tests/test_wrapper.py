@@ -18,12 +18,13 @@ UNKNOWN = {
     "gne v --seed 1": "gen", "hlep": "help", "checks": "check", "mkfs v": "format",
     "fsck v": "check", "-V": "--version", "version": "--version", "v check": "check v",
     "backup v": "dump", "dunp v": "dump", "restore v": "load", "laod v": "load",
+    "compact v": "pack", "pakc v": "pack",
     "v --pages 3": None, "xyzzy": None, "r": None,
     "--pages": None, "a\nb": None,
 }
 """Words whose first is no command, and what they are taken to mean."""
 
-COMMANDS = ("format", "run", "check", "gen", "clients", "dump", "load")
+COMMANDS = ("format", "run", "check", "gen", "clients", "dump", "load", "pack")
 MORE = "           with --anyway also where VOLUME holds data"
 """What the help of `gen` has that the program's usage hasn't."""
 
@@ -60,7 +61,7 @@ class WrapperTest(InFolder):
                 ran, by_itself = self.run_words(self.installed, *split), self.exsm(*split)
                 self.assertEqual((ran.status, ran.out, ran.errors),
                                  (by_itself.status, by_itself.out, by_itself.errors))
-                self.assertLessEqual(len(ran.errors), 4 if words else 13)
+                self.assertLessEqual(len(ran.errors), 4 if words else 14)
 
     def test_help(self) -> None:
         """help tells all words, or those of one command, with status 0"""
