@@ -73,6 +73,21 @@ class Area(NamedTuple):
         return (max(self.uses) - self.first) // self.pages + 1 if self.uses else 0
 
     @property
+    def high(self) -> int:
+        """The units in use that aren't among as many of the lowest ones: a pack moves these."""
+        return sum((page - self.first) // self.pages >= len(self.uses) for page in self.uses)
+
+    @property
+    def end(self) -> int:
+        """The byte of the volume behind the last unit in use."""
+        return self.first * self.room // self.pages + self.reach * self.room
+
+    @property
+    def packed(self) -> str:
+        """How much a pack has to move, or from which byte on nothing is in use."""
+        return f"{self.high} high" if self.high else f"packed, nothing from byte {self.end:,} on"
+
+    @property
     def filled(self) -> str:
         """How full the units in use are."""
         return percent(self.used, len(self.uses) * self.room)
@@ -96,10 +111,11 @@ def areas_of(volume: Volume) -> tuple[Area, Area]:
 def numbers_of(volume: Volume) -> dict[str, object]:
     """The use of a volume, for a program."""
     sizes = volume.geometry
+    page_area, segment_area = areas_of(volume)
     areas = {area.name.replace(" ", "_"): {
         "units": area.units, "used": len(area.uses), "unit_bytes": area.room,
         "bytes": area.used, "kinds": dict(Counter(use.kind for use in area.uses.values()))}
-        for area in areas_of(volume)}
+        for area in (page_area, segment_area)}
     files = {name: {"versions": len(records), "bytes": sum(record.size for record in records)}
              for name, records in volume.versions.items()}
     return {
@@ -108,7 +124,8 @@ def numbers_of(volume: Volume) -> dict[str, object]:
         "objects": len(volume.objects), "versions": len(volume.all()),
         "log": {"records": len(volume.records), "pages_not_home": len(volume.images),
                 "bytes": sum(record.length for record in volume.records)},
-        **areas, "files": files, "faults": volume.faults}
+        **areas, "high_units": segment_area.high,
+        "end_of_use": segment_area.end, "files": files, "faults": volume.faults}
 
 
 def usage(volume: Volume) -> Iterator[str]:
@@ -127,7 +144,7 @@ def usage(volume: Volume) -> Iterator[str]:
     page_area, segment_area = areas_of(volume)
     yield area_line(page_area)
     yield from kind_lines(page_area)
-    yield f"{area_line(segment_area)}, {segment_area.filled} filled"
+    yield f"{area_line(segment_area)}, {segment_area.filled} filled, {segment_area.packed}"
     for name, records in volume.versions.items():
         yield file_line(name, records)
     for fault in volume.faults:
