@@ -90,13 +90,17 @@ class Streams:
             os.remove(volume)
         ran([self.program, "format", volume, *self.sizes])
 
-    def make(self, pages: int, segs: int, lines: Iterator[str]) -> None:
-        """Makes a volume, runs a script on it, and keeps its stream."""
+    def fill(self, pages: int, segs: int, lines: Iterator[str]) -> None:
+        """Makes a volume, and runs a script on it."""
         self.sizes = ["--pages", str(pages), "--segs", str(segs)]
         self.format(self.volume)
         with open(self.script, "w", encoding="ascii") as file:
             file.writelines(f"{line}\n" for line in lines)
         ran([self.program, "run", self.volume], self.script)
+
+    def make(self, pages: int, segs: int, lines: Iterator[str]) -> None:
+        """Makes a volume, runs a script on it, and keeps its stream."""
+        self.fill(pages, segs, lines)
         ran([self.program, "dump", self.volume], sink=self.stream)
 
     def dump(self, memory: Optional[int] = None) -> Ran:
