@@ -15,7 +15,7 @@ mod top_call;
 
 pub use command_words::{NamedFile, Wish, file_of, wish_of};
 pub use format::format as make_volume;
-pub use program::run_program;
+pub use program::{Ending, run_program, run_words};
 pub use session::VolumeSession;
 pub use status::Status;
 pub use top_call::run;

@@ -12,11 +12,11 @@ use file_host::FileHost;
 use std::process::ExitCode;
 use std::{env, io};
 
-// How a command line ended, and the system's reason where a call failed.
+/// How a command line ended, and the system's reason where a call failed.
 #[derive(Clone, Copy)]
-struct Ending {
-    status: Status,
-    cause: Option<io::Error>,
+pub struct Ending {
+    pub status: Status,
+    pub cause: Option<io::Error>,
 }
 
 impl Ending {
@@ -36,8 +36,8 @@ fn words_of(rt: &HostRuntime) -> io::Result<Vec<String>> {
     Ok(words)
 }
 
-// Runs the command line on the file that it names. Words outside of the grammar are refused, but for want of memory.
-fn run_words(rt: &HostRuntime, words: &[String], file: Option<NamedFile<'_>>) -> Ending
+/// Runs the command line on the file that it names. Words outside of the grammar are refused, but for want of memory.
+pub fn run_words(rt: &HostRuntime, words: &[String], file: Option<NamedFile<'_>>) -> Ending
     ensures usage { result.status ≡ Status.Usage → IsOutside (texts words.now) }
     ensures outside { IsOutside (texts words.now)
         → (result.status ≡ Status.Usage) ⊎ (result.status ≡ Status.Memory) }
