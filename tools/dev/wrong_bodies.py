@@ -4,11 +4,11 @@
 An EDIT is a file in the form of a must-fail edit, in a folder that has its crate's name, or in
 crates/CRATE/must-fail/. A copy of the crate and of those below it is made in a folder, with the
 libraries that `rt check` built of them here. There the functions that the edits change are checked
-as they are, so that what refuses an edit is the edit, and then with the edits: those of a crate
-that change other functions at once, since a proof sees of other functions their clauses alone.
-That takes less than a check of the whole crate, as tools/try_edits makes it, and gives no verdict:
-an edit isn't refused where all goals of its functions hold. The status is 1 where an edit isn't
-refused, or wasn't tried.
+as they are, so that what refuses an edit is the edit, and then with each of the edits. That takes
+less than a check of the whole crate, as tools/try_edits makes it, and gives no verdict: an edit
+isn't refused where all goals of its functions hold, since callers see their clauses alone. Where a
+proof file names a step or a goal that has another name with the edit, the copy's file gets that
+name, and the check is made again. The status is 1 where an edit isn't refused, or wasn't tried.
 """
 from __future__ import annotations
 
@@ -27,6 +27,8 @@ sys.dont_write_bytecode = True
 from crate_code import TOP, read_functions, with_below  # noqa: E402
 
 PARTS = ("src", "specs", "proofs")
+# How often proof files get the names that steps have since an edit.
+RENAMES_MOST = 4
 # What is told of a proof file where the edit took a name away, and not a fact.
 NAMES = re.compile(r"has no field|is not in scope|has no `|was not admitted|is no name")
 
@@ -56,8 +58,8 @@ class Edit(NamedTuple):
         module, _, last = function.rpartition("::")
         if not last.startswith("+"):
             return function in self.functions
-        return any(it.startswith(f"{module}::") and goal.startswith(f"{it.split('::')[-1]}-")
-                   for it in self.functions)
+        names = [it.split("::")[-1] for it in self.functions if it.startswith(f"{module}::")]
+        return any(last == f"+{it}" or goal.startswith(f"{it}-") for it in names)
 
 
 class Open(NamedTuple):
@@ -69,10 +71,20 @@ class Open(NamedTuple):
     is_name: bool
 
 
+class Renamed(NamedTuple):
+    """A step or a goal that a proof file names, and what it is called with the edit."""
+
+    path: str
+    old: str
+    new: str
+
+
 class Told(NamedTuple):
-    """What a check told: what is open, and what stopped it before its end."""
+    """What a check told: what is open, what has other names, and what stopped it before its
+    end."""
 
     open: list[Open]
+    renamed: list[Renamed]
     stopped: str
 
 
@@ -155,36 +167,58 @@ class Copy(NamedTuple):
         for name in ("crates.txt", "HANDLES"):
             shutil.copy(TOP / name, self.room / name)
 
-    def put(self, edits: list[Edit], is_edited: bool) -> None:
-        """Writes the files that edits change, with these or as they are."""
-        changes = [change for edit in edits for change in edit.changes]
-        texts = {it.path: text_in(self.crate, it.path) for it in changes}
-        for it in changes if is_edited else []:
+    def put(self, edit: Edit) -> None:
+        """Writes the files that an edit changes, with it."""
+        texts = {it.path: text_in(self.crate, it.path) for it in edit.changes}
+        for it in edit.changes:
             texts[it.path] = edited(texts[it.path], it)
         for path, text in texts.items():
             (self.folder() / path).write_text(text, encoding="utf-8")
 
-    def goal_at(self, path: str, line: int) -> str:
-        """The answer of a proof file that a line is in."""
-        file = self.folder() / path
-        lines = file.read_text(encoding="utf-8").split("\n")[:line] if file.is_file() else []
-        names = [it[1] for text in lines if (it := re.match(r"(?:pub )?([^\s:()]+) :", text))]
-        return names[-1] if names else f"line {line}"
+    def rename(self, renamed: list[Renamed]) -> None:
+        """Writes the names that steps and goals have now into the proof files."""
+        for it in renamed:
+            file = self.folder() / it.path
+            text = file.read_text(encoding="utf-8")
+            text = re.sub(rf"(?<![\w-]){re.escape(it.old)}(?![\w-])", it.new, text)
+            # A goal's name has the condition of a branch in it.
+            if it.old.startswith("if-") and it.new.startswith("if-"):
+                text = text.replace(it.old.removeprefix("if-"), it.new.removeprefix("if-"))
+            file.write_text(text, encoding="utf-8")
 
-    def open_in(self, line: str) -> list[Open]:
-        """What a line of a check says isn't accepted."""
-        at = re.match(r"(?:note: )?(\S+?):(\d+):\d+: (.*)", line)
+    def path_of(self, path: str) -> str:
+        """The path in the crate that a check names."""
+        return re.sub(rf"^(\./|.*/crates/{self.crate}/)", "", path)
+
+    def open_in(self, said: str) -> list[Open]:
+        """What a complaint of a check says isn't accepted."""
+        at = re.match(r"(?:note: )?(\S+?):(\d+):\d+: (.*)", said)
         if not at:
             return []
-        path = re.sub(rf"^(\./|.*/crates/{self.crate}/)", "", at[1])
+        path = self.path_of(at[1])
         if path.startswith("src/") and "it is not proved" in at[3]:
             function = function_at(self.crate, path, int(at[2]))
             return [Open(function, goal, False) for goal in re.findall(r"\(`([^`]+)`\)", at[3])]
         is_name = bool(NAMES.search(at[3]))
         if path.startswith("proofs/") and (is_name or at[3].startswith("error")):
             function = "::".join(path.split("/")[1:-1])
-            return [Open(function, self.goal_at(path, int(at[2])), is_name)]
+            goal = re.match(r"error: `([^`]+)`", at[3])
+            return [Open(function, goal[1] if goal else f"line {at[2]}", is_name)]
         return []
+
+    def renamed_in(self, said: str, found: list[Open]) -> list[Renamed]:
+        """The step, or the goal of the same clause, that a complaint says has another name."""
+        at = re.match(r"(\S+?):\d+:\d+: .*\(nearest: \.([\w-]+).* has no field `([^`]+)`", said)
+        if at:
+            return [Renamed(self.path_of(at[1]), at[3], at[2])]
+        at = re.match(r"(\S+?):\d+:\d+: .*`goal\.([^`]+)`: module \S+ has no `\2`", said)
+        if not at or "-clause-" not in at[2]:
+            return []
+        clause = at[2].rpartition("-clause-")[2]
+        likely = [it.goal for it in found if not it.is_name
+                  and it.goal.rpartition("-clause-")[2] == clause
+                  and it.goal.split("-")[:2] == at[2].split("-")[:2]]
+        return [Renamed(self.path_of(at[1]), at[2], likely[0])] if len(likely) == 1 else []
 
     def check(self, functions: list[str], label: str) -> Told:
         """Checks functions of the copy."""
@@ -195,17 +229,28 @@ class Copy(NamedTuple):
                                  stdout=subprocess.PIPE, stderr=subprocess.STDOUT,
                                  errors="replace", timeout=self.seconds)
         except subprocess.TimeoutExpired:
-            return Told([], f"no end after {self.seconds:.0f} s")
+            return Told([], [], f"no end after {self.seconds:.0f} s")
         if self.logs:
             (self.logs / f"{self.crate}-{label}.log").write_text(ran.stdout, encoding="utf-8")
-        lines = ran.stdout.split("\n")
+        # A complaint goes on in lines that stand further in.
+        lines = re.sub(r"\n +", " ", ran.stdout).split("\n")
         found = list(dict.fromkeys(it for line in lines for it in self.open_in(line)))
+        renamed = list(dict.fromkeys(it for line in lines for it in self.renamed_in(line, found)))
         if not re.search(r"^only=\d+ holes=\d+$", ran.stdout, re.M):
             said = [it for it in lines if re.search(r"\berror(\[[\w-]+\])?:", it)] or lines[-2:]
-            return Told([], said[0].strip() or "the check told nothing")
+            return Told([], [], said[0].strip() or "the check told nothing")
         if ran.returncode and not found:
-            return Told([], f"the check ended with status {ran.returncode}, and no goal is open")
-        return Told(found, "")
+            return Told([], [], f"its status is {ran.returncode}, and no goal is open")
+        return Told(found, renamed, "")
+
+    def check_renamed(self, functions: list[str], label: str) -> Told:
+        """Checks functions, and again as long as what proofs name has other names."""
+        told, tries = self.check(functions, label), 0
+        while told.renamed and tries < RENAMES_MOST:
+            tries += 1
+            self.rename(told.renamed)
+            told = self.check(functions, f"{label}-{tries}")
+        return told
 
 
 def verdict(edit: Edit, told: Told) -> tuple[bool, str]:
@@ -223,56 +268,36 @@ def verdict(edit: Edit, told: Told) -> tuple[bool, str]:
     return False, " beside ".join(["not refused", *others[:3]])
 
 
-def batches(edits: list[Edit]) -> list[list[Edit]]:
-    """Edits in parts, in each of which no two change one function."""
-    found: list[list[Edit]] = []
-    for edit in edits:
-        for batch in found:
-            if not any(set(edit.functions) & set(it.functions) for it in batch):
-                batch.append(edit)
-                break
-        else:
-            found.append([edit])
-    return found
-
-
-def functions_of(edits: list[Edit]) -> list[str]:
-    """The functions that edits change, each once."""
-    return list(dict.fromkeys(it for edit in edits for it in edit.functions))
-
-
 def tell(crate: str, name: str, functions: list[str], what: str, began: float) -> None:
     """Writes a line of what came of an edit."""
     fields = [crate, name, ", ".join(functions), what, f"{time.monotonic() - began:.0f} s"]
     print("\t".join(fields), flush=True)
 
 
-def try_batch(copy: Copy, edits: list[Edit]) -> bool:
-    """Tries edits that change different functions, and tells whether all are refused."""
+def try_edit(copy: Copy, edit: Edit) -> bool:
+    """Tries an edit, and tells whether it is refused."""
     began = time.monotonic()
-    copy.put(edits, True)
+    copy.put(edit)
     try:
-        told = copy.check(functions_of(edits), "-".join(it.name for it in edits)[:120])
+        told = copy.check_renamed(edit.functions, edit.name)
     finally:
-        copy.put(edits, False)
-    if told.stopped and len(edits) > 1:
-        return all([try_batch(copy, [edit]) for edit in edits])
-    verdicts = [verdict(edit, told) for edit in edits]
-    for edit, (_, what) in zip(edits, verdicts):
-        tell(edit.crate, edit.name, edit.functions, what, began)
-    return all(is_refused for is_refused, _ in verdicts)
+        copy.make()
+    is_refused, what = verdict(edit, told)
+    tell(edit.crate, edit.name, edit.functions, what, began)
+    return is_refused
 
 
 def try_crate(copy: Copy, edits: list[Edit], skips_whole: bool) -> bool:
     """Tries the edits of a crate, and tells whether all are refused."""
     copy.make()
-    began, functions = time.monotonic(), functions_of(edits)
-    told = Told([], "") if skips_whole else copy.check(functions, "whole")
+    began = time.monotonic()
+    functions = list(dict.fromkeys(it for edit in edits for it in edit.functions))
+    told = Told([], [], "") if skips_whole else copy.check(functions, "whole")
     if told.stopped or told.open:
         what = told.stopped or ", ".join(f"{it.function}: {it.goal}" for it in told.open)
         tell(copy.crate, "as it is", functions, f"not proved: {what}", began)
         return False
-    return all([try_batch(copy, batch) for batch in batches(edits)])
+    return all([try_edit(copy, edit) for edit in edits])
 
 
 def read_edits(files: list[Path]) -> tuple[dict[str, list[Edit]], bool]:
