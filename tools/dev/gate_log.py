@@ -4,6 +4,7 @@
     tools/dev/gate_log.py LOG ..            writes the table; of two logs that measured the same
                                             the later one holds
     tools/dev/gate_log.py --scaled LOG ..   writes it in the measure of the table that stands there
+    tools/dev/gate_log.py --same COMMIT LOG ..  the same, by the crates that are as in the commit
     tools/dev/gate_log.py --again           writes it anew for the crates of crates.txt, with the
                                             figures that stand there
     tools/dev/gate_log.py --print LOG ..    prints it only
@@ -15,11 +16,14 @@ comes from a run of `tools/dev/gate --anew`, or from the logs of all parts of on
 The seconds of a table are those of one machine. Where figures of the table that stands there stay,
 and with --scaled, all that the logs measured is divided by how many times as long as there the
 proofs that both have took in them, by the middle one of these ratios: one proof tells little where
-other work ran beside some. Logs that share no proof with the table are taken as they are.
+other work ran beside some. Logs that share no proof with the table are taken as they are. Where
+many proofs became lighter since the table was written, only the others tell of the machine: --same
+takes the ratio of those crates alone whose code, definitions and proofs are as in that commit.
 """
 from __future__ import annotations
 
 import re
+import subprocess
 import sys
 from pathlib import Path
 from statistics import median
@@ -58,6 +62,19 @@ LAST = re.compile(r"\[ *[\d.]+\] (\d+ passed, \d+ failed.*)")
 
 class NoLog(Exception):
     """A file isn't a log of tools/dev/gate."""
+
+
+class NoCommit(Exception):
+    """git knows no such commit."""
+
+
+def changed_since(commit: str) -> set[str]:
+    """The crates whose code, definitions or proofs aren't as in a commit."""
+    ran = subprocess.run(["git", "diff", "--name-only", commit, "--", "crates"],
+                         capture_output=True, text=True, check=False)
+    if ran.returncode:
+        raise NoCommit(f"{commit} is no commit: {ran.stderr.strip()}")
+    return {it[1] for it in re.finditer(r"(?m)^crates/(\w+)/(?:src|specs|proofs)/", ran.stdout)}
 
 
 class Log:
@@ -116,22 +133,23 @@ def earlier() -> dict[Key, int]:
 
 
 class Speed(NamedTuple):
-    """How many times as long proofs took in the logs as in the table, and of how many that is."""
+    """How many times as long proofs took in the logs as in the table, and of which that is."""
 
     factor: float
-    proofs: int
+    proofs: str
 
 
 class Table:
     """The rows of the table, and what they come to."""
 
-    def __init__(self, logs: list[Log], scaled: bool = False) -> None:
+    def __init__(self, logs: list[Log], scaled: bool = False,
+                 changed: frozenset[str] = frozenset()) -> None:
         self.seconds: dict[Key, float] = {}
         for log in logs:
             self.seconds.update({key: it for key, it in log.seconds.items()
                                  if key not in log.part})
         self.before = earlier()
-        self.speed = self._scale(scaled)
+        self.speed = self._scale(scaled, changed)
         self.sums: dict[str, int] = dict.fromkeys(KINDS, 0)
         self.of_crate: dict[str, int] = {}
         self.starred = False
@@ -140,16 +158,19 @@ class Table:
         self.rows = [f"| `{crate}` | {' | '.join(self._field(kind, crate) for kind in KINDS)} |"
                      for crate in named_crates()]
 
-    def _scale(self, always: bool) -> Optional[Speed]:
+    def _scale(self, always: bool, changed: frozenset[str]) -> Optional[Speed]:
         """Brings what the logs measured into the measure of the table that stands there, where
-        some of its figures stay, and gives by what; none where that isn't known or wanted."""
+        some of its figures stay, and gives by what; none where that isn't known or wanted. What
+        changed tells nothing of the machine."""
         times = [it / self.before[key] for key, it in self.seconds.items()
-                 if key[0] == "proof" and self.before.get(key, 0) >= TELLING]
+                 if key[0] == "proof" and key[1] not in changed
+                 and self.before.get(key, 0) >= TELLING]
         stays = any(key in self.before and key not in self.seconds and has_work(*key)
                     for key in ((kind, crate) for crate in named_crates() for kind in KINDS))
         if not times or not (always or stays):
             return None
-        speed = Speed(median(times), len(times))
+        alike = " and that are as they were" if changed else ""
+        speed = Speed(median(times), f"{len(times)} that both have{alike}")
         self.seconds = {key: it / speed.factor for key, it in self.seconds.items()}
         return speed
 
@@ -158,7 +179,7 @@ class Table:
         if self.speed and not 1 / OTHER_SPEED < self.speed.factor < OTHER_SPEED:
             yield (f"What the last run measured was divided by {self.speed.factor:.2f}: so many "
                    f"times as long as in the table before its proofs took in the middle, of "
-                   f"{self.speed.proofs} that both have.")
+                   f"{self.speed.proofs}.")
 
     def _field(self, kind: str, crate: str) -> str:
         """What stands of a kind of work of a crate."""
@@ -224,15 +245,17 @@ def main() -> int:
     parser.add_argument("--again", action="store_true", help="with the figures that stand there")
     parser.add_argument("--scaled", action="store_true",
                         help="in the measure of the table that stands there")
+    parser.add_argument("--same", metavar="COMMIT", help="by the crates that are as in a commit")
     parser.add_argument("--print", dest="shows", action="store_true", help="print the table only")
     words = parser.parse_args()
     if not words.logs and not words.again:
         parser.error("no LOG, and no --again")
     try:
         logs = [Log(it) for it in words.logs]
-    except (NoLog, OSError) as fault:
+        changed = frozenset(changed_since(words.same) if words.same else ())
+    except (NoLog, NoCommit, OSError) as fault:
         sys.exit(f"gate_log: {fault}")
-    table = Table(logs, words.scaled)
+    table = Table(logs, words.scaled or bool(words.same), changed)
     text = table.text(logs[-1] if logs else None)
     if words.shows:
         print(text)

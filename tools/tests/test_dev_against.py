@@ -3,9 +3,7 @@ from __future__ import annotations
 
 import subprocess
 
-from tests.toy import InToy
-
-GIT = ["git", "-c", "user.name=toy", "-c", "user.email=toy@example.org"]
+from tests.toy import GIT, InToy
 
 
 class AgainstTest(InToy):

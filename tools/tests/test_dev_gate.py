@@ -5,7 +5,7 @@ import os
 import sys
 from pathlib import Path
 
-from tests.toy import InToy
+from tests.toy import GIT, InToy
 
 PAGE = ("# Gate\n\n<!-- written by tools/dev/gate_log.py -->\n"
         "| `low` | 7 | 3 | 5 (2) |\n| `exsm_run` | 1,200* | no tests | no edits |\n"
@@ -69,6 +69,26 @@ class GateTest(InToy):
             self.assertEqual([it for it in lines if it in own + scaled], rows)
             self.assertEqual(told in "\n".join(lines), is_told)
             self.assertIn("of which it used 20 processor minutes of that machine", "\n".join(lines))
+
+    def test_same(self) -> None:
+        """proofs that became lighter tell nothing of the machine"""
+        self.write("crates.txt", f"ex_base:\n{self.text('crates.txt')}")
+        self.write("docs/GATE.md", PAGE.replace(
+            "| `low` | 7 |", "| `ex_base` | 56 | no tests | no edits |\n| `low` | 70 |"))
+        self.write("crates/ex_base/src/lib.rt", "pub struct Units;\n")
+        for words in (["init", "-q"], ["add", "."], ["commit", "-qm", "low: pages"]):
+            self.run_words(*GIT, *words)
+        self.change("crates/low/src/pages.rt", "number.min(MOST)", "MOST.min(number)")
+        self.write("log", LOG.replace("gate: work run", "gate: work proof ex_base 112.0\n"
+                                                        "gate: work run"))
+        ran = self.script("gate_log.py", "--print", "--same", "HEAD", "log")
+        self.assertIn("| `ex_base` | 56 | no tests | no edits |", ran.lines)
+        self.assertIn("| `low` | 6 | no tests | kept (1) |", ran.lines)
+        self.assertIn("was divided by 2.00: so many times as long as in the table before its "
+                      "proofs took in the middle, of 1 that both have and that are as they were.",
+                      "\n".join(ran.lines))
+        ran = self.script("gate_log.py", "--print", "--same", "none", "log")
+        self.assertEqual((ran.status, ran.lines), (1, []))
 
     def test_kept(self) -> None:
         """of the last run it is told how many proofs it kept"""

@@ -7,6 +7,9 @@ from pathlib import Path
 
 from tests.support import TOP, InFolder, Ran
 
+# git as someone whom the machine needn't know.
+GIT = ["git", "-c", "user.name=toy", "-c", "user.email=toy@example.org"]
+
 CRATES = """# The crates, lowest first.
 
 # base: pages
