@@ -5,6 +5,7 @@ pub mod Each
 pub mod FieldLaws
 pub mod Filters
 pub mod Geometries
+pub mod Handed
 pub mod Keeping
 pub mod Lists
 pub mod Members
