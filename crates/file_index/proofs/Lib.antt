@@ -1,4 +1,5 @@
 pub mod Naming
+pub mod LaterStates
 pub mod Blame
 pub mod Ways
 pub mod Under
@@ -11,6 +12,7 @@ pub mod Context
 pub mod Closing
 pub mod Rewriting
 pub mod Placing
+pub mod Replacing
 pub mod Parts
 pub mod Stepping
 pub mod Descending

@@ -1,4 +1,4 @@
-use Rattle.std.proofs.Common.{◌≡◌, ◌≢◌, ◌<◌, ◌-◌, suc, List, Some, length, subst, sym, ap, ◌∙◌, refl, arith}
+use Rattle.std.proofs.Common.{◌≡◌, ◌≢◌, ◌<◌, ◌-◌, ℕ, suc, List, Some, length, subst, sym, ap, ◌∙◌, refl, arith}
 use Rattle.file_index.specs.declared.Entry.{Entry}
 use Rattle.ex_base.specs.declared.geometry.Geometry.{Geometry}
 use Rattle.ex_base.specs.Sizes.{least_page}
@@ -12,7 +12,13 @@ use Rattle.file_index.proofs.Ways.{child_at, page_way, page_fault}
 use Rattle.file_index.proofs.Lists.{put_local}
 use Rattle.file_index.proofs.Descending.{never_read, row_below, stays_below, written_below, first_key_is}
 use Rattle.file_index.proofs.Leaves.{leaf_added}
+use Rattle.ex_base.proofs.Handed.{cause_after}
+use Rattle.file_index.proofs.LaterStates.{page_after}
+use Rattle.std.proofs.lemmas.Grind.{common_steps}
+use Rattle.file_index.proofs.Replacing.{replaced_more, replaced_same, entry_of, no_second, key_differs}
+use Rattle.ex_base.specs.declared.names.Area.TheVariants.{Page}
 use Rattle.file_index.proofs.adding.+add_among.Goals as goal
+use Rattle.file_index.proofs.adding.+add_among.Goals.{then-first-child, else-first-child}
 
 pub returns-then-level-eq1-clause-adds : goal.returns-then-level-eq1-clause-adds
 returns-then-level-eq1-clause-adds g t c =
@@ -106,3 +112,57 @@ returns-in-Err-add_among-clause-fault g t c =
 
 pub store-requires-clause-held : goal.store-requires-clause-held
 store-requires-clause-held g t c = c.in-Ok-true.ensures.takes.held c.index-child.result.now.page.0 (rw c.entries_at.ensures.kept.held c.in-Ok.ensures.held)
+
+pub store-requires-clause-ready : goal.store-requires-clause-ready
+store-requires-clause-ready g t c = g.P.Ground.leads_ready _ _ (g.P.Ground.leads_trans _ _ _ c.entries_at.ensures.kept.leads c.add_among.ensures.leads) c.requires.ready
+
+pub store-requires-clause-page : goal.store-requires-clause-page
+store-requires-clause-page g t c = page_after g.P.Ground _ _ (g.P.Ground.leads_trans _ _ _ c.entries_at.ensures.kept.leads c.add_among.ensures.leads) _ c.in-Ok.ensures.area
+
+pub returns-then-level-eq1-clause-leads : goal.returns-then-level-eq1-clause-leads
+returns-then-level-eq1-clause-leads g t c = g.P.Ground.leads_refl _
+
+pub returns-in-Ok-false-clause-leads : goal.returns-in-Ok-false-clause-leads
+returns-in-Ok-false-clause-leads g t c = g.P.Ground.leads_trans _ _ _ c.entries_at.ensures.kept.leads c.add_among.ensures.leads
+
+pub returns-in-Err-add_among-clause-leads : goal.returns-in-Err-add_among-clause-leads
+returns-in-Err-add_among-clause-leads g t c = g.P.Ground.leads_trans _ _ _ c.entries_at.ensures.kept.leads c.add_among.ensures.leads
+
+pub returns-in-Err-add_among-clause-cause : goal.returns-in-Err-add_among-clause-cause
+returns-in-Err-add_among-clause-cause g t c = cause_after g.P.Ground _ _ c.entries_at.ensures.kept.leads c.add_among.new.pages c.in-Err-add_among.fault c.in-Err-add_among.ensures.cause
+
+pub returns-in-Err-store-clause-leads : goal.returns-in-Err-store-clause-leads
+returns-in-Err-store-clause-leads g t c = g.P.Ground.leads_trans _ _ _ c.entries_at.ensures.kept.leads (g.P.Ground.leads_trans _ _ _ c.add_among.ensures.leads c.store.ensures.leads)
+
+pub returns-in-Err-store-clause-cause : goal.returns-in-Err-store-clause-cause
+returns-in-Err-store-clause-cause g t c = cause_after g.P.Ground _ _ (g.P.Ground.leads_trans _ _ _ c.entries_at.ensures.kept.leads c.add_among.ensures.leads) c.store.new.pages c.in-Err-store.fault c.in-Err-store.ensures.cause
+
+pub returns-in-Ok-replace_one-clause-leads : goal.returns-in-Ok-replace_one-clause-leads
+returns-in-Ok-replace_one-clause-leads g t c = g.P.Ground.leads_trans _ _ _ c.entries_at.ensures.kept.leads (g.P.Ground.leads_trans _ _ _ c.add_among.ensures.leads c.store.ensures.leads)
+
+pub returns-clause-leads : goal.returns-clause-leads
+returns-clause-leads g t c = g.P.Ground.leads_trans _ _ _ c.entries_at.ensures.kept.leads (g.P.Ground.leads_trans _ _ _ c.add_among.ensures.leads c.store.ensures.leads)
+
+pub store-requires-clause-buffer : goal.store-requires-clause-buffer
+store-requires-clause-buffer g t c = grind (arith, common_steps, g.P.Ground.leads_geometry)
+
+pub returns-in-Ok-replace_one-clause-more : goal.returns-in-Ok-replace_one-clause-more
+returns-in-Ok-replace_one-clause-more g t c = replaced_more c.args.entries.now.items c.replace_one.new.entries.items c.place_of-at.result (record { key = c.index.result.now.key; page = c.index-child.result.now.page }) c.in-Ok-store.second
+    (subst (λ (l : List Entry). c.place_of-at.result < length l) c.deref.ensures.value c.place_of-at.ensures.place.inside) c.in-Ok-replace_one.ensures.items
+
+pub returns-in-Ok-replace_one-clause-same : goal.returns-in-Ok-replace_one-clause-same
+returns-in-Ok-replace_one-clause-same g t c = λ unchanged. elim c.if-first-child.branch [
+  | then-first-child w ↦ absurd (key_differs c.index.result.now.key c.index-child.result.now.key w.if-first-child.true (sym w.changed-is ∙ unchanged))
+  | else-first-child w ↦ replaced_same c.args.entries.now.items c.replace_one.new.entries.items c.place_of-at.result c.index-child.result.now (record { key = c.index.result.now.key; page = c.index-child.result.now.page }) c.in-Ok-store.second
+      (subst (λ (l : List Entry). c.place_of-at.result < length l) c.deref.ensures.value c.place_of-at.ensures.place.inside) c.index-child.ensures c.in-Ok-replace_one.ensures.items
+      (ap (λ (k : ℕ). entry_of k c.index-child.result.now.page) w.if-first-child.false) (no_second c.in-Ok-store.second (sym w.is_some-changed.ensures ∙ sym w.changed-is ∙ unchanged))
+]
+
+pub returns-in-Ok-replace_one-clause-free : goal.returns-in-Ok-replace_one-clause-free
+returns-in-Ok-replace_one-clause-free g t c = omega (arith, c.in-Ok-store.ensures.free, c.in-Ok-true.ensures.free, ap (λ f. f Page) c.entries_at.ensures.kept.free)
+
+pub returns-in-Err-store-clause-sound : goal.returns-in-Err-store-clause-sound
+returns-in-Err-store-clause-sound g t c = λ damage told row. c.in-Err-store.ensures.no_damage damage
+
+pub returns-clause-sound : goal.returns-clause-sound
+returns-clause-sound g t c = λ damage told row. c.in-Err-replace_one.ensures.no_damage damage

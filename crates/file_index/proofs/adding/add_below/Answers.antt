@@ -13,6 +13,10 @@ use Rattle.file_index.proofs.Ways.{page_way, page_fault, root_way, root_fault}
 use Rattle.file_index.specs.Nodes.{Stored, heads, first_key}
 use Rattle.file_index.specs.Changes.{Changes}
 use Rattle.file_index.proofs.Tops.{root_read, row_top, same_top, written_top, raised_top}
+use Rattle.ex_base.proofs.Handed.{cause_after, cause_of}
+use Rattle.file_index.proofs.LaterStates.{page_after, room_after}
+use Rattle.std.proofs.lemmas.Grind.{common_steps}
+use Rattle.file_index.specs.Index.{HasPlacedRoot}
 use Rattle.file_index.proofs.adding.add_below.Goals as goal
 
 pub returns-in-Err-clause-cause : goal.returns-in-Err-clause-cause
@@ -117,3 +121,48 @@ pub returns-in-Err-entries_at-clause-sound : goal.returns-in-Err-entries_at-clau
 returns-in-Err-entries_at-clause-sound g c = λ damage told has.
     let step : suc (c.args.index.now.level - 1) ≡ c.args.index.now.level = omega (arith, c.requires.level) in
     root_read g.P.Ground c.args.pages.now c.args.index.now c.args.root (c.args.index.now.level - 1) c.requires.root step has (c.in-Err-entries_at.ensures.sound damage told)
+
+pub add_among-requires-clause-ready : goal.add_among-requires-clause-ready
+add_among-requires-clause-ready g c = g.P.Ground.leads_ready _ _ c.entries_at.ensures.kept.leads c.requires.ready
+
+pub add_among-requires-clause-many : goal.add_among-requires-clause-many
+add_among-requires-clause-many g c = room_after g.P.Ground _ _ c.entries_at.ensures.kept.leads _ c.in-Ok-entries_at.ensures.many
+
+pub store-requires-clause-ready : goal.store-requires-clause-ready
+store-requires-clause-ready g c = g.P.Ground.leads_ready _ _ (g.P.Ground.leads_trans _ _ _ c.entries_at.ensures.kept.leads c.add_among.ensures.leads) c.requires.ready
+
+pub store-requires-clause-page : goal.store-requires-clause-page
+store-requires-clause-page g c = page_after g.P.Ground _ _ (g.P.Ground.leads_trans _ _ _ c.entries_at.ensures.kept.leads c.add_among.ensures.leads) _ c.in-Ok-entries_at.ensures.area
+
+pub take_root-requires-clause-ready : goal.take_root-requires-clause-ready
+take_root-requires-clause-ready g c = g.P.Ground.leads_ready _ _ (g.P.Ground.leads_trans _ _ _ c.entries_at.ensures.kept.leads (g.P.Ground.leads_trans _ _ _ c.add_among.ensures.leads c.store.ensures.leads)) c.requires.ready
+
+pub returns-in-Ok-false-clause-leads : goal.returns-in-Ok-false-clause-leads
+returns-in-Ok-false-clause-leads g c = g.P.Ground.leads_trans _ _ _ c.entries_at.ensures.kept.leads c.add_among.ensures.leads
+
+pub returns-in-Err-add_among-clause-leads : goal.returns-in-Err-add_among-clause-leads
+returns-in-Err-add_among-clause-leads g c = g.P.Ground.leads_trans _ _ _ c.entries_at.ensures.kept.leads c.add_among.ensures.leads
+
+pub returns-in-Err-add_among-clause-cause : goal.returns-in-Err-add_among-clause-cause
+returns-in-Err-add_among-clause-cause g c = cause_after g.P.Ground _ _ c.entries_at.ensures.kept.leads c.add_among.new.pages c.in-Err-add_among.fault c.in-Err-add_among.ensures.cause
+
+pub returns-in-Ok-None-clause-leads : goal.returns-in-Ok-None-clause-leads
+returns-in-Ok-None-clause-leads g c = g.P.Ground.leads_trans _ _ _ c.entries_at.ensures.kept.leads (g.P.Ground.leads_trans _ _ _ c.add_among.ensures.leads c.store.ensures.leads)
+
+pub returns-in-Err-store-clause-leads : goal.returns-in-Err-store-clause-leads
+returns-in-Err-store-clause-leads g c = g.P.Ground.leads_trans _ _ _ c.entries_at.ensures.kept.leads (g.P.Ground.leads_trans _ _ _ c.add_among.ensures.leads c.store.ensures.leads)
+
+pub returns-in-Err-store-clause-cause : goal.returns-in-Err-store-clause-cause
+returns-in-Err-store-clause-cause g c = cause_after g.P.Ground _ _ (g.P.Ground.leads_trans _ _ _ c.entries_at.ensures.kept.leads c.add_among.ensures.leads) c.store.new.pages c.in-Err-store.fault c.in-Err-store.ensures.cause
+
+pub returns-clause-cause : goal.returns-clause-cause
+returns-clause-cause g c = cause_of g.P.Ground _ _ (g.P.Ground.leads_trans _ _ _ c.entries_at.ensures.kept.leads (g.P.Ground.leads_trans _ _ _ c.add_among.ensures.leads c.store.ensures.leads)) c.take_root.new.pages c.take_root.result c.take_root.ensures.cause
+
+pub store-requires-clause-buffer : goal.store-requires-clause-buffer
+store-requires-clause-buffer g c = grind (arith, common_steps, g.P.Ground.leads_geometry)
+
+pub take_root-requires-clause-buffer : goal.take_root-requires-clause-buffer
+take_root-requires-clause-buffer g c = grind (arith, common_steps, g.P.Ground.leads_geometry)
+
+pub returns-clause-placed : goal.returns-clause-placed
+returns-clause-placed g c = IfOk-weaker c.take_root.result _ _ (λ made placed files. subst (λ (y : Geometry). HasPlacedRoot y made.root) (g.P.Ground.leads_geometry _ _ (g.P.Ground.leads_trans _ _ _ c.entries_at.ensures.kept.leads (g.P.Ground.leads_trans _ _ _ c.add_among.ensures.leads c.store.ensures.leads))) placed) c.take_root.ensures.placed

@@ -2,6 +2,8 @@ use Rattle.file_index.proofs.Descent.{sound_here, sound_below, least_below_is}
 use Rattle.file_index.specs.Damage.{every_page}
 use Rattle.file_index.proofs.Blame.{way_here}
 use Rattle.file_index.proofs.Ways.{fault_down, way_down, found_down}
+use Rattle.ex_base.proofs.Handed.{cause_of}
+use Rattle.ex_base.proofs.Keeping.{keeps_on}
 use Rattle.file_index.proofs.least.+least_below.Goals as goal
 use Rattle.std.proofs.lemmas.Result.{IfErr-weaker, IfOk-weaker, on_ok_weaker}
 
@@ -37,3 +39,9 @@ pub returns-clause-found : goal.returns-clause-found
 returns-clause-found g t c =
     IfOk-weaker c.least_below.result _ _ (λ answer below. found_down g.P.Ground c.args.pages.now c.step_at.new.pages c.args.named.file_no c.args.named.level c.args.named.least c.args.named.page.0 c.args.key c.args.next c.in-Ok.step
     answer c.if-named-eq0.false c.step_at.ensures.kept c.in-Ok.ensures.step below) c.least_below.ensures.found
+
+pub returns-clause-kept : goal.returns-clause-kept
+returns-clause-kept g t c = keeps_on g.P.Ground _ _ _ c.step_at.ensures.kept c.least_below.ensures.kept
+
+pub returns-clause-cause : goal.returns-clause-cause
+returns-clause-cause g t c = cause_of g.P.Ground _ _ c.step_at.ensures.kept.leads c.least_below.new.pages c.least_below.result c.least_below.ensures.cause

@@ -1,6 +1,6 @@
 use Rattle.std.proofs.Common.{◌≡◌, ◌≢◌, ◌<◌, Some, length, inl, inr, ◌+◌, ◌-◌, suc, List, take, drop, None, subst, sym, ap, ◌∙◌, refl, arith, true≢false}
 use Rattle.std.proofs.lemmas.Result.{on_ok_weaker}
-use Rattle.ex_base.proofs.Results.{if_err_handed}
+use Rattle.ex_base.proofs.Results.{if_err_handed, if_ok_both}
 use Rattle.std.specs.Prelude.{◌==◌, if◌then◌else◌}
 use Rattle.ex_base.specs.declared.geometry.Geometry.{Geometry}
 use Rattle.file_index.specs.declared.Entry.{Entry}
@@ -15,6 +15,11 @@ use Rattle.file_index.proofs.Lists.{out_local}
 use Rattle.file_index.proofs.Descending.{never_read, row_below, held_below, stays_below, written_below}
 use Rattle.file_index.proofs.Leaves.{leaf_removed}
 use Rattle.file_index.proofs.Mending.{pair_known, mended, still_named, pages_differ}
+use Rattle.ex_base.proofs.Handed.{cause_after, cause_of}
+use Rattle.file_index.proofs.LaterStates.{page_after}
+use Rattle.std.proofs.lemmas.Grind.{common_steps}
+use Rattle.file_index.proofs.Replacing.{replaced_same, replaced_once, kept_entry}
+use Rattle.std.proofs.lemmas.Result.{IfErr-weaker}
 use Rattle.file_index.proofs.removing.+remove_among.Goals as goal
 
 pub returns-then-level-eq1-clause-removes : goal.returns-then-level-eq1-clause-removes
@@ -183,3 +188,67 @@ returns-in_err-still_held-in-Ok-true-clause-fault g t c = if_err_handed c.from_r
     under_removal (g.P.Ground.geometry c.args.pages.now) (g.P.Ground.held c.args.pages.now) (g.P.Ground.image c.args.pages.now) (g.P.Ground.held c.remove_among.new.pages) (g.P.Ground.image c.remove_among.new.pages) c.args.file_no c.args.key (c.args.level - 1) c.args.entries.now.items c.index-child.result.now c.in_err-still_held-in-Ok-true.field-0.0 child
     (inr (page_gone g.P.Ground c.args.pages.now c.entries_at.new.pages c.args.file_no (c.args.level - 1) (Some c.index-child.result.now.key) c.index-child.result.now.page.0 c.args.key c.in-Ok.below.items above c.entries_at.ensures.kept c.in-Ok.ensures.entries
     (λ told_a. record { area = c.in-Ok.ensures.area; named = c.in-Ok.ensures.named told_a }) (g.P.Ground.held c.remove_among.new.pages) (g.P.Ground.image c.remove_among.new.pages) c.in_err-still_held-in-Ok-true.field-0.0 c.in_err-still_held-in-Ok-true.ensures.gone told)))
+
+pub still_held-requires-clause-ready : goal.still_held-requires-clause-ready
+still_held-requires-clause-ready g t c = g.P.Ground.leads_ready _ _ (g.P.Ground.leads_trans _ _ _ c.entries_at.ensures.kept.leads c.remove_among.ensures.leads) c.requires.ready
+
+pub still_held-requires-clause-page : goal.still_held-requires-clause-page
+still_held-requires-clause-page g t c = page_after g.P.Ground _ _ (g.P.Ground.leads_trans _ _ _ c.entries_at.ensures.kept.leads c.remove_among.ensures.leads) _ c.in-Ok.ensures.area
+
+pub write_child-requires-clause-ready : goal.write_child-requires-clause-ready
+write_child-requires-clause-ready g t c = g.P.Ground.leads_ready _ _ (g.P.Ground.leads_trans _ _ _ c.entries_at.ensures.kept.leads c.remove_among.ensures.leads) c.requires.ready
+
+pub write_child-requires-clause-page : goal.write_child-requires-clause-page
+write_child-requires-clause-page g t c = page_after g.P.Ground _ _ (g.P.Ground.leads_trans _ _ _ c.entries_at.ensures.kept.leads c.remove_among.ensures.leads) _ c.in-Ok.ensures.area
+
+pub spread-requires-clause-ready : goal.spread-requires-clause-ready
+spread-requires-clause-ready g t c = g.P.Ground.leads_ready _ _ (g.P.Ground.leads_trans _ _ _ c.entries_at.ensures.kept.leads c.remove_among.ensures.leads) c.requires.ready
+
+pub returns-then-level-eq1-clause-leads : goal.returns-then-level-eq1-clause-leads
+returns-then-level-eq1-clause-leads g t c = g.P.Ground.leads_refl _
+
+pub returns-in-Ok-false-clause-leads : goal.returns-in-Ok-false-clause-leads
+returns-in-Ok-false-clause-leads g t c = g.P.Ground.leads_trans _ _ _ c.entries_at.ensures.kept.leads c.remove_among.ensures.leads
+
+pub returns-in-Err-remove_among-clause-leads : goal.returns-in-Err-remove_among-clause-leads
+returns-in-Err-remove_among-clause-leads g t c = g.P.Ground.leads_trans _ _ _ c.entries_at.ensures.kept.leads c.remove_among.ensures.leads
+
+pub returns-in-Err-remove_among-clause-cause : goal.returns-in-Err-remove_among-clause-cause
+returns-in-Err-remove_among-clause-cause g t c = cause_after g.P.Ground _ _ c.entries_at.ensures.kept.leads c.remove_among.new.pages c.in-Err-remove_among.fault c.in-Err-remove_among.ensures.cause
+
+pub returns-in_err-still_held-in-Ok-true-clause-leads : goal.returns-in_err-still_held-in-Ok-true-clause-leads
+returns-in_err-still_held-in-Ok-true-clause-leads g t c = g.P.Ground.leads_trans _ _ _ c.entries_at.ensures.kept.leads c.remove_among.ensures.leads
+
+pub returns-in_err-still_held-in-Ok-true-clause-cause : goal.returns-in_err-still_held-in-Ok-true-clause-cause
+returns-in_err-still_held-in-Ok-true-clause-cause g t c = if_err_handed c.from_residual.result _ c.in_err-still_held-in-Ok-true.field-0.0 c.from_residual.ensures.1 (c.in_err-still_held-in-Ok-true.ensures.cause _ _)
+
+pub returns-then-len-most_entries-clause-leads : goal.returns-then-len-most_entries-clause-leads
+returns-then-len-most_entries-clause-leads g t c = g.P.Ground.leads_trans _ _ _ c.entries_at.ensures.kept.leads (g.P.Ground.leads_trans _ _ _ c.remove_among.ensures.leads c.write_child.ensures.leads)
+
+pub returns-then-len-most_entries-clause-cause : goal.returns-then-len-most_entries-clause-cause
+returns-then-len-most_entries-clause-cause g t c = cause_of g.P.Ground _ _ (g.P.Ground.leads_trans _ _ _ c.entries_at.ensures.kept.leads c.remove_among.ensures.leads) c.write_child.new.pages c.write_child.result c.write_child.ensures.cause
+
+pub returns-in-Err-spread-clause-leads : goal.returns-in-Err-spread-clause-leads
+returns-in-Err-spread-clause-leads g t c = g.P.Ground.leads_trans _ _ _ c.entries_at.ensures.kept.leads (g.P.Ground.leads_trans _ _ _ c.remove_among.ensures.leads c.spread.ensures.leads)
+
+pub returns-in-Err-spread-clause-cause : goal.returns-in-Err-spread-clause-cause
+returns-in-Err-spread-clause-cause g t c = cause_after g.P.Ground _ _ (g.P.Ground.leads_trans _ _ _ c.entries_at.ensures.kept.leads c.remove_among.ensures.leads) c.spread.new.pages c.in-Err-spread.fault c.in-Err-spread.ensures.cause
+
+pub write_child-requires-clause-buffer : goal.write_child-requires-clause-buffer
+write_child-requires-clause-buffer g t c = grind (arith, common_steps, g.P.Ground.leads_geometry)
+
+pub spread-requires-clause-buffer : goal.spread-requires-clause-buffer
+spread-requires-clause-buffer g t c = grind (arith, common_steps, g.P.Ground.leads_geometry)
+
+pub returns-then-len-most_entries-clause-same : goal.returns-then-len-most_entries-clause-same
+returns-then-len-most_entries-clause-same g t c = if_ok_both c.write_child.result _ _ _ (λ changed same items unchanged.
+    replaced_same c.args.entries.now.items c.write_child.new.entries.items c.place_of-at.result c.index-child.result.now (record { key = first_key c.deref-then-len-most_entries.result.now; page = c.index-child.result.now.page }) None
+    (subst (λ (l : List Entry). c.place_of-at.result < length l) c.deref.ensures.value c.place_of-at.ensures.place.inside) c.index-child.ensures items (kept_entry c.index-child.result.now (first_key c.deref-then-len-most_entries.result.now) (same unchanged)) refl) c.write_child.ensures.same c.write_child.ensures.items
+
+pub returns-then-len-most_entries-clause-fewer : goal.returns-then-len-most_entries-clause-fewer
+returns-then-len-most_entries-clause-fewer g t c = on_ok_weaker c.write_child.result (λ items.
+    let once = replaced_once c.args.entries.now.items c.write_child.new.entries.items c.place_of-at.result (record { key = first_key c.deref-then-len-most_entries.result.now; page = c.index-child.result.now.page }) (subst (λ (l : List Entry). c.place_of-at.result < length l) c.deref.ensures.value c.place_of-at.ensures.place.inside) items in
+    (omega (arith, once), omega (arith, once))) c.write_child.ensures.items
+
+pub returns-then-len-most_entries-clause-sound : goal.returns-then-len-most_entries-clause-sound
+returns-then-len-most_entries-clause-sound g t c = IfErr-weaker c.write_child.result _ _ (λ fault never damage told row. never damage) c.write_child.ensures.no_damage

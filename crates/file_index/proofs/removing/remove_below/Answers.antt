@@ -6,6 +6,9 @@ use Rattle.file_index.specs.Nodes.{IsWritten}
 use Rattle.file_index.proofs.Blame.{way_here}
 use Rattle.file_index.proofs.Ways.{page_way, page_gone, page_removal, root_way, root_fault, root_removal}
 use Rattle.file_index.proofs.Tops.{root_read, row_top, held_top, same_top, written_top, lowered_top, single}
+use Rattle.ex_base.proofs.Handed.{cause_after}
+use Rattle.file_index.proofs.LaterStates.{page_after, room_after}
+use Rattle.std.proofs.lemmas.Grind.{common_steps}
 use Rattle.file_index.proofs.removing.remove_below.Goals as goal
 
 pub returns-in-Err-clause-cause : goal.returns-in-Err-clause-cause
@@ -104,3 +107,54 @@ pub returns-in-Err-entries_at-clause-sound : goal.returns-in-Err-entries_at-clau
 returns-in-Err-entries_at-clause-sound g c = λ damage told has.
     let step : suc (c.args.index.now.level - 1) ≡ c.args.index.now.level = omega (arith, c.requires.level) in
     root_read g.P.Ground c.args.pages.now c.args.index.now c.args.root (c.args.index.now.level - 1) c.requires.root step has (c.in-Err-entries_at.ensures.sound damage told)
+
+pub remove_among-requires-clause-ready : goal.remove_among-requires-clause-ready
+remove_among-requires-clause-ready g c = g.P.Ground.leads_ready _ _ c.entries_at.ensures.kept.leads c.requires.ready
+
+pub remove_among-requires-clause-many : goal.remove_among-requires-clause-many
+remove_among-requires-clause-many g c = room_after g.P.Ground _ _ c.entries_at.ensures.kept.leads _ c.in-Ok-entries_at.ensures.many
+
+pub still_held-requires-clause-ready : goal.still_held-requires-clause-ready
+still_held-requires-clause-ready g c = g.P.Ground.leads_ready _ _ (g.P.Ground.leads_trans _ _ _ c.entries_at.ensures.kept.leads c.remove_among.ensures.leads) c.requires.ready
+
+pub still_held-requires-clause-page : goal.still_held-requires-clause-page
+still_held-requires-clause-page g c = page_after g.P.Ground _ _ (g.P.Ground.leads_trans _ _ _ c.entries_at.ensures.kept.leads c.remove_among.ensures.leads) _ c.in-Ok-entries_at.ensures.area
+
+pub put_index-requires-clause-ready : goal.put_index-requires-clause-ready
+put_index-requires-clause-ready g c = g.P.Ground.leads_ready _ _ (g.P.Ground.leads_trans _ _ _ c.entries_at.ensures.kept.leads c.remove_among.ensures.leads) c.requires.ready
+
+pub put_index-requires-clause-page : goal.put_index-requires-clause-page
+put_index-requires-clause-page g c = page_after g.P.Ground _ _ (g.P.Ground.leads_trans _ _ _ c.entries_at.ensures.kept.leads c.remove_among.ensures.leads) _ c.in-Ok-entries_at.ensures.area
+
+pub give_page-requires-clause-ready : goal.give_page-requires-clause-ready
+give_page-requires-clause-ready g c = g.P.Ground.leads_ready _ _ (g.P.Ground.leads_trans _ _ _ c.entries_at.ensures.kept.leads c.remove_among.ensures.leads) c.requires.ready
+
+pub returns-in-Ok-false-clause-leads : goal.returns-in-Ok-false-clause-leads
+returns-in-Ok-false-clause-leads g c = g.P.Ground.leads_trans _ _ _ c.entries_at.ensures.kept.leads c.remove_among.ensures.leads
+
+pub returns-in-Err-remove_among-clause-leads : goal.returns-in-Err-remove_among-clause-leads
+returns-in-Err-remove_among-clause-leads g c = g.P.Ground.leads_trans _ _ _ c.entries_at.ensures.kept.leads c.remove_among.ensures.leads
+
+pub returns-in-Err-remove_among-clause-cause : goal.returns-in-Err-remove_among-clause-cause
+returns-in-Err-remove_among-clause-cause g c = cause_after g.P.Ground _ _ c.entries_at.ensures.kept.leads c.remove_among.new.pages c.in-Err-remove_among.fault c.in-Err-remove_among.ensures.cause
+
+pub returns-in_err-still_held-in-Ok-true-clause-leads : goal.returns-in_err-still_held-in-Ok-true-clause-leads
+returns-in_err-still_held-in-Ok-true-clause-leads g c = g.P.Ground.leads_trans _ _ _ c.entries_at.ensures.kept.leads c.remove_among.ensures.leads
+
+pub returns-in_err-still_held-in-Ok-true-clause-cause : goal.returns-in_err-still_held-in-Ok-true-clause-cause
+returns-in_err-still_held-in-Ok-true-clause-cause g c = if_err_handed c.from_residual.result _ c.in_err-still_held-in-Ok-true.field-0.0 c.from_residual.ensures.1 (c.in_err-still_held-in-Ok-true.ensures.cause _ _)
+
+pub returns-in_err-put_index-clause-leads : goal.returns-in_err-put_index-clause-leads
+returns-in_err-put_index-clause-leads g c = g.P.Ground.leads_trans _ _ _ c.entries_at.ensures.kept.leads (g.P.Ground.leads_trans _ _ _ c.remove_among.ensures.leads c.put_index.ensures.leads)
+
+pub returns-then-len-gt1-clause-leads : goal.returns-then-len-gt1-clause-leads
+returns-then-len-gt1-clause-leads g c = g.P.Ground.leads_trans _ _ _ c.entries_at.ensures.kept.leads (g.P.Ground.leads_trans _ _ _ c.remove_among.ensures.leads c.put_index.ensures.leads)
+
+pub returns-in_err-give_page-clause-leads : goal.returns-in_err-give_page-clause-leads
+returns-in_err-give_page-clause-leads g c = g.P.Ground.leads_trans _ _ _ c.entries_at.ensures.kept.leads (g.P.Ground.leads_trans _ _ _ c.remove_among.ensures.leads c.give_page.ensures.leads)
+
+pub returns-clause-leads : goal.returns-clause-leads
+returns-clause-leads g c = g.P.Ground.leads_trans _ _ _ c.entries_at.ensures.kept.leads (g.P.Ground.leads_trans _ _ _ c.remove_among.ensures.leads c.give_page.ensures.leads)
+
+pub put_index-requires-clause-buffer : goal.put_index-requires-clause-buffer
+put_index-requires-clause-buffer g c = grind (arith, common_steps, g.P.Ground.leads_geometry)
