@@ -11,6 +11,7 @@ mod NodeStep
 mod PaidRows
 mod RootGrow
 mod Faults
+mod WalkFaults
 mod Counting
 pub mod RootEdit
 pub mod SoundWays

@@ -3,7 +3,7 @@ use Rattle.std.proofs.Common.{◌≡◌, ◌≢◌, ◌⊎◌, ℕ, zero, suc, �
 use Rattle.ex_base.specs.declared.faults.PortFault.{PortFault}
 use Rattle.ex_base.specs.declared.faults.PortFault.TheVariants.{Disk, Memory, Damaged}
 use Rattle.ex_base.specs.declared.ground.Ground as ground
-use Rattle.ex_base.specs.Ports.{Keeps}
+use Rattle.ex_base.specs.Ports.{IsDamage, Keeps}
 use Rattle.ex_base.specs.declared.geometry.Geometry.{Geometry}
 use Rattle.trees.specs.Node.{pairs_on}
 use Rattle.trees.specs.Trees.{Units}
@@ -37,6 +37,12 @@ pub walk_back : {S : Type 0} (g : ground.Ghosts S) (a b : S) (level least : ℕ)
 walk_back g a b level least row fault k later told =
     subst (λ units. IsWalkFault (g.geometry a) units level least row fault) k.units
     (subst (λ geo. IsWalkFault geo (g.unit b) level least row fault) (g.leads_geometry a b k.leads) (later (g.leads_told a b k.leads told)))
+
+-- a fault that tells of no damage
+pub walk_undamaged : (geo : Geometry) (u : Units) (level least : ℕ) (row : List Part) (fault : PortFault) → (IsDamage fault → ⊥) → IsWalkFault geo u level least row fault
+walk_undamaged geo u level least row Disk none = tt
+walk_undamaged geo u level least row Memory none = tt
+walk_undamaged geo u level least row (Damaged at want got) none = absurd (none tt)
 
 -- ---- a tree of a row
 

@@ -15,6 +15,8 @@ use Rattle.tree_delete.proofs.Faults.{walk_run, walk_leaves}
 use Rattle.tree_delete.proofs.LeafLaws.{run_most, run_fits, leaves_left_of, leaves_roots, leaves_left}
 use Rattle.tree_delete.specs.Beside.{TakesNear}
 use Rattle.tree_delete.proofs.Beside.{beside_leaf}
+use Rattle.ex_base.proofs.Handed.{no_value, not_given, cause_here}
+use Rattle.ex_base.specs.declared.faults.PortFault.TheVariants.{Memory}
 use Rattle.tree_delete.proofs.leaves.cut_leaves.Goals as goal
 
 pub with_leaf-requires-clause-place : goal.with_leaf-requires-clause-place
@@ -77,3 +79,152 @@ returns-clause-beside g c = λ told.
     beside_leaf (g.B.Ground.geometry c.args.blocks.now) (g.B.Ground.unit c.args.blocks.now) c.args.cut c.in_ok-cut.cut c.requires.cut_at.some c.requires.cut_at.inside
     (subst (λ k. 1 ≤ row_size c.args.cut.run.items - c.args.cut.len → row_size c.args.cut.run.items - c.args.cut.len < k / 2 → TakesNear c.args.cut c.in_ok-cut.cut) c.requires.buffer c.in_ok-cut.ensures.near)
     (subst (λ r. (byte : ℕ) → byte < row_size r → (byte < c.in_ok-cut.cut.at) ⊎ (c.in_ok-cut.cut.at + c.in_ok-cut.cut.len ≤ byte) → IsSoundWay (g.B.Ground.geometry c.args.blocks.now) (g.B.Ground.unit c.args.blocks.now) (NamesLeaf (g.B.Ground.geometry c.args.blocks.now)) 0 0 r byte byte) c.deref-2.ensures.value (c.in_ok-made.ensures.way told))
+
+-- ---- what else is asked and promised
+
+pub returns-in_err-cut-clause-beside : goal.returns-in_err-cut-clause-beside
+returns-in_err-cut-clause-beside g c = not_given c.from_residual.result _ Memory c.from_residual.ensures.1
+
+pub returns-in_err-lengths-clause-beside : goal.returns-in_err-lengths-clause-beside
+returns-in_err-lengths-clause-beside g c = not_given c.from_residual-in_err-lengths.result _ Memory c.from_residual-in_err-lengths.ensures.1
+
+pub returns-in_err-made-clause-beside : goal.returns-in_err-made-clause-beside
+returns-in_err-made-clause-beside g c = not_given c.from_residual-in_err-made.result _ c.in_err-made.field-0.0 c.from_residual-in_err-made.ensures.1
+
+pub returns-in_err-joined-clause-beside : goal.returns-in_err-joined-clause-beside
+returns-in_err-joined-clause-beside g c = not_given c.from_residual-in_err-joined.result _ Memory c.from_residual-in_err-joined.ensures.1
+
+pub write_leaves-requires-clause-buffer : goal.write_leaves-requires-clause-buffer
+write_leaves-requires-clause-buffer g c = c.requires.buffer
+
+pub returns-in_err-cut-clause-cause : goal.returns-in_err-cut-clause-cause
+returns-in_err-cut-clause-cause g c = cause_here (g.B.Ground.faults c.args.blocks.now) (g.B.Ground.faults c.args.blocks.now) c.from_residual.result Memory c.from_residual.ensures.1 tt
+
+pub returns-in_err-lengths-clause-cause : goal.returns-in_err-lengths-clause-cause
+returns-in_err-lengths-clause-cause g c = cause_here (g.B.Ground.faults c.args.blocks.now) (g.B.Ground.faults c.args.blocks.now) c.from_residual-in_err-lengths.result Memory c.from_residual-in_err-lengths.ensures.1 tt
+
+pub returns-in_err-made-clause-cause : goal.returns-in_err-made-clause-cause
+returns-in_err-made-clause-cause g c = cause_here (g.B.Ground.faults c.args.blocks.now) (g.B.Ground.faults c.write_leaves.new.blocks) c.from_residual-in_err-made.result c.in_err-made.field-0.0 c.from_residual-in_err-made.ensures.1 c.in_err-made.ensures.cause
+
+pub returns-in_err-joined-clause-cause : goal.returns-in_err-joined-clause-cause
+returns-in_err-joined-clause-cause g c = cause_here (g.B.Ground.faults c.args.blocks.now) (g.B.Ground.faults c.write_leaves.new.blocks) c.from_residual-in_err-joined.result Memory c.from_residual-in_err-joined.ensures.1 tt
+
+pub returns-clause-cause : goal.returns-clause-cause
+returns-clause-cause g c = tt
+
+pub returns-in_err-cut-clause-extends : goal.returns-in_err-cut-clause-extends
+returns-in_err-cut-clause-extends g c = not_given c.from_residual.result _ Memory c.from_residual.ensures.1
+
+pub returns-in_err-lengths-clause-extends : goal.returns-in_err-lengths-clause-extends
+returns-in_err-lengths-clause-extends g c = not_given c.from_residual-in_err-lengths.result _ Memory c.from_residual-in_err-lengths.ensures.1
+
+pub returns-in_err-made-clause-extends : goal.returns-in_err-made-clause-extends
+returns-in_err-made-clause-extends g c = not_given c.from_residual-in_err-made.result _ c.in_err-made.field-0.0 c.from_residual-in_err-made.ensures.1
+
+pub returns-in_err-joined-clause-extends : goal.returns-in_err-joined-clause-extends
+returns-in_err-joined-clause-extends g c = not_given c.from_residual-in_err-joined.result _ Memory c.from_residual-in_err-joined.ensures.1
+
+pub returns-clause-extends : goal.returns-clause-extends
+returns-clause-extends g c = c.in_ok-made.ensures.extends
+
+pub returns-in_err-cut-clause-fault : goal.returns-in_err-cut-clause-fault
+returns-in_err-cut-clause-fault g c = if_err_handed c.from_residual.result _ Memory c.from_residual.ensures.1 (λ told least. tt)
+
+pub returns-in_err-lengths-clause-fault : goal.returns-in_err-lengths-clause-fault
+returns-in_err-lengths-clause-fault g c = if_err_handed c.from_residual-in_err-lengths.result _ Memory c.from_residual-in_err-lengths.ensures.1 (λ told least. tt)
+
+pub returns-in_err-joined-clause-fault : goal.returns-in_err-joined-clause-fault
+returns-in_err-joined-clause-fault g c = if_err_handed c.from_residual-in_err-joined.result _ Memory c.from_residual-in_err-joined.ensures.1 (λ told least. tt)
+
+pub returns-clause-fault : goal.returns-clause-fault
+returns-clause-fault g c = tt
+
+pub returns-in_err-cut-clause-leads : goal.returns-in_err-cut-clause-leads
+returns-in_err-cut-clause-leads g c = g.B.Ground.leads_refl c.args.blocks.now
+
+pub returns-in_err-lengths-clause-leads : goal.returns-in_err-lengths-clause-leads
+returns-in_err-lengths-clause-leads g c = g.B.Ground.leads_refl c.args.blocks.now
+
+pub returns-in_err-made-clause-leads : goal.returns-in_err-made-clause-leads
+returns-in_err-made-clause-leads g c = c.in_err-made.ensures.leads
+
+pub returns-in_err-joined-clause-leads : goal.returns-in_err-joined-clause-leads
+returns-in_err-joined-clause-leads g c = c.in_ok-made.ensures.leads
+
+pub returns-clause-leads : goal.returns-clause-leads
+returns-clause-leads g c = c.in_ok-made.ensures.leads
+
+pub returns-in_err-cut-clause-leaves : goal.returns-in_err-cut-clause-leaves
+returns-in_err-cut-clause-leaves g c = not_given c.from_residual.result _ Memory c.from_residual.ensures.1
+
+pub returns-in_err-lengths-clause-leaves : goal.returns-in_err-lengths-clause-leaves
+returns-in_err-lengths-clause-leaves g c = not_given c.from_residual-in_err-lengths.result _ Memory c.from_residual-in_err-lengths.ensures.1
+
+pub returns-in_err-made-clause-leaves : goal.returns-in_err-made-clause-leaves
+returns-in_err-made-clause-leaves g c = not_given c.from_residual-in_err-made.result _ c.in_err-made.field-0.0 c.from_residual-in_err-made.ensures.1
+
+pub returns-in_err-joined-clause-leaves : goal.returns-in_err-joined-clause-leaves
+returns-in_err-joined-clause-leaves g c = not_given c.from_residual-in_err-joined.result _ Memory c.from_residual-in_err-joined.ensures.1
+
+pub returns-in_err-cut-clause-left : goal.returns-in_err-cut-clause-left
+returns-in_err-cut-clause-left g c = no_value c.from_residual.result _ Memory c.from_residual.ensures.1
+
+pub returns-in_err-lengths-clause-left : goal.returns-in_err-lengths-clause-left
+returns-in_err-lengths-clause-left g c = no_value c.from_residual-in_err-lengths.result _ Memory c.from_residual-in_err-lengths.ensures.1
+
+pub returns-in_err-made-clause-left : goal.returns-in_err-made-clause-left
+returns-in_err-made-clause-left g c = no_value c.from_residual-in_err-made.result _ c.in_err-made.field-0.0 c.from_residual-in_err-made.ensures.1
+
+pub returns-in_err-joined-clause-left : goal.returns-in_err-joined-clause-left
+returns-in_err-joined-clause-left g c = no_value c.from_residual-in_err-joined.result _ Memory c.from_residual-in_err-joined.ensures.1
+
+pub returns-in_err-cut-clause-left_of : goal.returns-in_err-cut-clause-left_of
+returns-in_err-cut-clause-left_of g c = no_value c.from_residual.result _ Memory c.from_residual.ensures.1
+
+pub returns-in_err-lengths-clause-left_of : goal.returns-in_err-lengths-clause-left_of
+returns-in_err-lengths-clause-left_of g c = no_value c.from_residual-in_err-lengths.result _ Memory c.from_residual-in_err-lengths.ensures.1
+
+pub returns-in_err-made-clause-left_of : goal.returns-in_err-made-clause-left_of
+returns-in_err-made-clause-left_of g c = no_value c.from_residual-in_err-made.result _ c.in_err-made.field-0.0 c.from_residual-in_err-made.ensures.1
+
+pub returns-in_err-joined-clause-left_of : goal.returns-in_err-joined-clause-left_of
+returns-in_err-joined-clause-left_of g c = no_value c.from_residual-in_err-joined.result _ Memory c.from_residual-in_err-joined.ensures.1
+
+pub returns-in_err-cut-clause-pages : goal.returns-in_err-cut-clause-pages
+returns-in_err-cut-clause-pages g c = not_given c.from_residual.result _ Memory c.from_residual.ensures.1
+
+pub returns-in_err-lengths-clause-pages : goal.returns-in_err-lengths-clause-pages
+returns-in_err-lengths-clause-pages g c = not_given c.from_residual-in_err-lengths.result _ Memory c.from_residual-in_err-lengths.ensures.1
+
+pub returns-in_err-made-clause-pages : goal.returns-in_err-made-clause-pages
+returns-in_err-made-clause-pages g c = not_given c.from_residual-in_err-made.result _ c.in_err-made.field-0.0 c.from_residual-in_err-made.ensures.1
+
+pub returns-in_err-joined-clause-pages : goal.returns-in_err-joined-clause-pages
+returns-in_err-joined-clause-pages g c = not_given c.from_residual-in_err-joined.result _ Memory c.from_residual-in_err-joined.ensures.1
+
+pub write_leaves-requires-clause-ready : goal.write_leaves-requires-clause-ready
+write_leaves-requires-clause-ready g c = c.requires.ready
+
+pub returns-in_err-cut-clause-roots : goal.returns-in_err-cut-clause-roots
+returns-in_err-cut-clause-roots g c = no_value c.from_residual.result _ Memory c.from_residual.ensures.1
+
+pub returns-in_err-lengths-clause-roots : goal.returns-in_err-lengths-clause-roots
+returns-in_err-lengths-clause-roots g c = no_value c.from_residual-in_err-lengths.result _ Memory c.from_residual-in_err-lengths.ensures.1
+
+pub returns-in_err-made-clause-roots : goal.returns-in_err-made-clause-roots
+returns-in_err-made-clause-roots g c = no_value c.from_residual-in_err-made.result _ c.in_err-made.field-0.0 c.from_residual-in_err-made.ensures.1
+
+pub returns-in_err-joined-clause-roots : goal.returns-in_err-joined-clause-roots
+returns-in_err-joined-clause-roots g c = no_value c.from_residual-in_err-joined.result _ Memory c.from_residual-in_err-joined.ensures.1
+
+pub returns-in_err-cut-clause-way : goal.returns-in_err-cut-clause-way
+returns-in_err-cut-clause-way g c = not_given c.from_residual.result _ Memory c.from_residual.ensures.1
+
+pub returns-in_err-lengths-clause-way : goal.returns-in_err-lengths-clause-way
+returns-in_err-lengths-clause-way g c = not_given c.from_residual-in_err-lengths.result _ Memory c.from_residual-in_err-lengths.ensures.1
+
+pub returns-in_err-made-clause-way : goal.returns-in_err-made-clause-way
+returns-in_err-made-clause-way g c = not_given c.from_residual-in_err-made.result _ c.in_err-made.field-0.0 c.from_residual-in_err-made.ensures.1
+
+pub returns-in_err-joined-clause-way : goal.returns-in_err-joined-clause-way
+returns-in_err-joined-clause-way g c = not_given c.from_residual-in_err-joined.result _ Memory c.from_residual-in_err-joined.ensures.1

@@ -7,6 +7,7 @@ use Rattle.std.specs.Vec.{vec_len}
 use Rattle.tree_delete.proofs.Beside.{none_there}
 use Rattle.tree_delete.proofs.LeafLaws.{wider_same, wider_left, wider_right, run_most, left_most, last_size, first_gone}
 use Rattle.tree_delete.proofs.leaves.with_leaf.Goals.{then-rest-eq0-via-then-rest-eq0, then-rest-eq0-via-else-rest-eq0+then-full-rest}
+use Rattle.ex_base.proofs.Handed.{no_value}
 use Rattle.tree_delete.proofs.leaves.with_leaf.Goals as goal
 
 pub bytes_of-requires : goal.bytes_of-requires
@@ -53,3 +54,17 @@ returns-clause-near c = λ some less.
     takes_behind c.remove-near.result c.remove-near.new.self.items (none_there (vec_len c.args.cut.left) c.args.cut.left.items (omega (arith, c.args.cut.left.ok.0)) (λ more. true≢false (sym (c.in_default.ensures.variant.1 more))))
     (first_gone c.args.cut.right.items c.remove-near.new.self.items c.remove-near.result one c.remove-near.ensures.value c.remove-near.ensures.items)
     (c.in_ok-joined-2.ensures ∙ ap (λ (xs : List Part). xs ++ ((c.remove-near.result ∷ []) ++ [])) c.deref-2.ensures.value) refl refl
+
+-- ---- where memory is wanting
+
+pub returns-in_err-joined-clause-wider : goal.returns-in_err-joined-clause-wider
+returns-in_err-joined-clause-wider c = no_value c.from_residual.result _ _ c.from_residual.ensures.1
+
+pub returns-in_err-joined-clause-near : goal.returns-in_err-joined-clause-near
+returns-in_err-joined-clause-near c = no_value c.from_residual.result _ _ c.from_residual.ensures.1
+
+pub returns-in_err-joined-2-clause-wider : goal.returns-in_err-joined-2-clause-wider
+returns-in_err-joined-2-clause-wider c = no_value c.from_residual-in_err-joined-2.result _ _ c.from_residual-in_err-joined-2.ensures.1
+
+pub returns-in_err-joined-2-clause-near : goal.returns-in_err-joined-2-clause-near
+returns-in_err-joined-2-clause-near c = no_value c.from_residual-in_err-joined-2.result _ _ c.from_residual-in_err-joined-2.ensures.1

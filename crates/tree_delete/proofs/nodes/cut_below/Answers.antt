@@ -12,6 +12,9 @@ use Rattle.tree_delete.proofs.Ends.{ends_of_cut}
 use Rattle.tree_delete.proofs.Faults.{walk_cut}
 use Rattle.tree_delete.proofs.NodeLaws.{below_at, below_is}
 use Rattle.tree_delete.specs.Beside.{AreNodesAt, children_on}
+use Rattle.ex_base.proofs.Handed.{no_value, cause_here}
+use Rattle.ex_base.specs.declared.faults.PortFault.TheVariants.{Memory}
+use Rattle.ex_base.proofs.Results.{if_err_handed}
 use Rattle.tree_delete.proofs.nodes.cut_below.Goals as goal
 
 pub cut_through-requires-clause-limit : goal.cut_through-requires-clause-limit
@@ -61,3 +64,86 @@ returns-clause-nodes g c = λ told.
       subst (λ r. IsCutOf r c.args.cut.now.at c.args.cut.now.len c.in_ok-cut_through.field-0) (nodes.1 ∙ ap (children_on (g.B.Ground.unit c.args.blocks.now)) c.deref.ensures.value)
           (subst (λ r. IsCutOf r c.args.cut.now.at c.args.cut.now.len c.in_ok-cut_through.field-0) c.deref-2.ensures.value c.in_ok-cut_through.ensures),
     )
+
+-- ---- what else is asked and promised
+
+pub returns-in_err-row-clause-cut_at : goal.returns-in_err-row-clause-cut_at
+returns-in_err-row-clause-cut_at g c = no_value c.from_residual.result _ c.in_err-row.field-0.0 c.from_residual.ensures.1
+
+pub returns-in_err-row-clause-sum : goal.returns-in_err-row-clause-sum
+returns-in_err-row-clause-sum g c = no_value c.from_residual.result _ c.in_err-row.field-0.0 c.from_residual.ensures.1
+
+pub returns-in_err-row-clause-less : goal.returns-in_err-row-clause-less
+returns-in_err-row-clause-less g c = no_value c.from_residual.result _ c.in_err-row.field-0.0 c.from_residual.ensures.1
+
+pub returns-in_err-row-clause-few : goal.returns-in_err-row-clause-few
+returns-in_err-row-clause-few g c = no_value c.from_residual.result _ c.in_err-row.field-0.0 c.from_residual.ensures.1
+
+pub returns-in_err-row-clause-below : goal.returns-in_err-row-clause-below
+returns-in_err-row-clause-below g c = no_value c.from_residual.result _ c.in_err-row.field-0.0 c.from_residual.ensures.1
+
+pub returns-in_err-row-clause-way : goal.returns-in_err-row-clause-way
+returns-in_err-row-clause-way g c = no_value c.from_residual.result _ c.in_err-row.field-0.0 c.from_residual.ensures.1
+
+pub returns-in_err-row-clause-nodes : goal.returns-in_err-row-clause-nodes
+returns-in_err-row-clause-nodes g c = no_value c.from_residual.result _ c.in_err-row.field-0.0 c.from_residual.ensures.1
+
+pub returns-in_err-row-clause-walk : goal.returns-in_err-row-clause-walk
+returns-in_err-row-clause-walk g c = no_value c.from_residual.result _ c.in_err-row.field-0.0 c.from_residual.ensures.1
+
+pub returns-in_err-row-clause-kept : goal.returns-in_err-row-clause-kept
+returns-in_err-row-clause-kept g c = c.children_of.ensures.kept
+
+pub returns-in_err-row-clause-cause : goal.returns-in_err-row-clause-cause
+returns-in_err-row-clause-cause g c = cause_here (g.B.Ground.faults c.args.blocks.now) (g.B.Ground.faults c.children_of.new.blocks) c.from_residual.result c.in_err-row.field-0.0 c.from_residual.ensures.1 c.in_err-row.ensures.cause
+
+pub returns-in_err-row-clause-fault : goal.returns-in_err-row-clause-fault
+returns-in_err-row-clause-fault g c = if_err_handed c.from_residual.result _ c.in_err-row.field-0.0 c.from_residual.ensures.1 (λ told. subst (λ r. IsWalkFault (g.B.Ground.geometry c.args.blocks.now) (g.B.Ground.unit c.args.blocks.now) c.args.level c.args.least r c.in_err-row.field-0.0) c.deref.ensures.value (c.in_err-row.ensures.fault told))
+
+pub returns-in_err-cut_through-clause-cut_at : goal.returns-in_err-cut_through-clause-cut_at
+returns-in_err-cut_through-clause-cut_at g c = no_value c.from_residual-in_err-cut_through.result _ Memory c.from_residual-in_err-cut_through.ensures.1
+
+pub returns-in_err-cut_through-clause-sum : goal.returns-in_err-cut_through-clause-sum
+returns-in_err-cut_through-clause-sum g c = no_value c.from_residual-in_err-cut_through.result _ Memory c.from_residual-in_err-cut_through.ensures.1
+
+pub returns-in_err-cut_through-clause-less : goal.returns-in_err-cut_through-clause-less
+returns-in_err-cut_through-clause-less g c = no_value c.from_residual-in_err-cut_through.result _ Memory c.from_residual-in_err-cut_through.ensures.1
+
+pub returns-in_err-cut_through-clause-few : goal.returns-in_err-cut_through-clause-few
+returns-in_err-cut_through-clause-few g c = no_value c.from_residual-in_err-cut_through.result _ Memory c.from_residual-in_err-cut_through.ensures.1
+
+pub returns-in_err-cut_through-clause-below : goal.returns-in_err-cut_through-clause-below
+returns-in_err-cut_through-clause-below g c = no_value c.from_residual-in_err-cut_through.result _ Memory c.from_residual-in_err-cut_through.ensures.1
+
+pub returns-in_err-cut_through-clause-way : goal.returns-in_err-cut_through-clause-way
+returns-in_err-cut_through-clause-way g c = no_value c.from_residual-in_err-cut_through.result _ Memory c.from_residual-in_err-cut_through.ensures.1
+
+pub returns-in_err-cut_through-clause-nodes : goal.returns-in_err-cut_through-clause-nodes
+returns-in_err-cut_through-clause-nodes g c = no_value c.from_residual-in_err-cut_through.result _ Memory c.from_residual-in_err-cut_through.ensures.1
+
+pub returns-in_err-cut_through-clause-walk : goal.returns-in_err-cut_through-clause-walk
+returns-in_err-cut_through-clause-walk g c = no_value c.from_residual-in_err-cut_through.result _ Memory c.from_residual-in_err-cut_through.ensures.1
+
+pub returns-in_err-cut_through-clause-fault : goal.returns-in_err-cut_through-clause-fault
+returns-in_err-cut_through-clause-fault g c = if_err_handed c.from_residual-in_err-cut_through.result _ Memory c.from_residual-in_err-cut_through.ensures.1 (λ told. tt)
+
+pub returns-in_err-cut_through-clause-kept : goal.returns-in_err-cut_through-clause-kept
+returns-in_err-cut_through-clause-kept g c = c.children_of.ensures.kept
+
+pub returns-in_err-cut_through-clause-cause : goal.returns-in_err-cut_through-clause-cause
+returns-in_err-cut_through-clause-cause g c = cause_here (g.B.Ground.faults c.args.blocks.now) (g.B.Ground.faults c.children_of.new.blocks) c.from_residual-in_err-cut_through.result Memory c.from_residual-in_err-cut_through.ensures.1 tt
+
+pub returns-clause-kept : goal.returns-clause-kept
+returns-clause-kept g c = c.children_of.ensures.kept
+
+pub returns-clause-fault : goal.returns-clause-fault
+returns-clause-fault g c = tt
+
+pub returns-clause-cause : goal.returns-clause-cause
+returns-clause-cause g c = tt
+
+pub children_of-requires-clause-ready : goal.children_of-requires-clause-ready
+children_of-requires-clause-ready g c = c.requires.ready
+
+pub children_of-requires-clause-level : goal.children_of-requires-clause-level
+children_of-requires-clause-level g c = c.requires.level

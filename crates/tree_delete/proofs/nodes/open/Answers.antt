@@ -1,7 +1,7 @@
 use Rattle.std.proofs.Common.{true≢false, inl, inr, ◌-◌, ◌≤◌, suc, List, [], ◌∷◌, ◌++◌, length, ap, sym, subst, ◌∙◌, arith}
 use Rattle.std.proofs.lemmas.List.{append-nil}
 use Rattle.ex_base.specs.declared.geometry.Geometry.{Geometry}
-use Rattle.ex_base.proofs.Results.{if_err_handed}
+use Rattle.ex_base.proofs.Results.{if_err_handed, cause_handed}
 use Rattle.trees.specs.declared.rows.Part.{Part}
 use Rattle.trees.specs.Made.{Holds}
 use Rattle.tree_delete.specs.Cuts.{all_of, AreChildren, HasSoundEnds}
@@ -16,6 +16,9 @@ use Rattle.tree_delete.proofs.OpenLaws.{all_left, all_right, opens_here, opens_l
 use Rattle.std.specs.Vec.{vec_len}
 use Rattle.tree_delete.specs.Beside.{enough, widens_before, widens_behind, AreNodesAt, IsSoundBeside}
 use Rattle.tree_delete.proofs.Beside.{beside_up, nodes_back, none_there}
+use Rattle.ex_base.proofs.Handed.{no_value, cause_here}
+use Rattle.ex_base.specs.declared.faults.PortFault.TheVariants.{Memory}
+use Rattle.ex_base.proofs.Keeping.{keeps_on}
 use Rattle.tree_delete.proofs.nodes.open.Goals as goal
 
 pub returns-then-fan-len-clause-counted : goal.returns-then-fan-len-clause-counted
@@ -166,3 +169,149 @@ returns-clause-beside g c = λ told opens.
     (subst (λ rights. IsSoundBeside (g.B.Ground.geometry c.args.blocks.now) (g.B.Ground.unit c.args.blocks.now) (c.args.level - 1) (g.B.Ground.geometry c.args.blocks.now).fan c.in_ok-below.below.left.items c.in_ok-below.below.run.items rights c.in_ok-below.below.at c.in_ok-below.below.len)
     (c.in_ok-joined-2.ensures ∙ ap (λ (xs : List Part). xs ++ (c.deref-3.result.now ++ [])) c.deref-2.ensures.value ∙ ap (λ (xs : List Part). c.in_ok-below.below.right.items ++ (xs ++ [])) c.deref-3.ensures.value ∙ ap (λ (xs : List Part). c.in_ok-below.below.right.items ++ xs) (append-nil c.in_ok-row-2.row.items ∙ near.1))
     opens))
+
+-- ---- what else is asked and promised
+
+pub returns-in_err-below-clause-counted : goal.returns-in_err-below-clause-counted
+returns-in_err-below-clause-counted g c = no_value c.from_residual.result _ c.in_err-below.field-0.0 c.from_residual.ensures.1
+
+pub returns-in_err-below-clause-opened : goal.returns-in_err-below-clause-opened
+returns-in_err-below-clause-opened g c = no_value c.from_residual.result _ c.in_err-below.field-0.0 c.from_residual.ensures.1
+
+pub returns-in_err-below-clause-way : goal.returns-in_err-below-clause-way
+returns-in_err-below-clause-way g c = no_value c.from_residual.result _ c.in_err-below.field-0.0 c.from_residual.ensures.1
+
+pub returns-in_err-below-clause-beside : goal.returns-in_err-below-clause-beside
+returns-in_err-below-clause-beside g c = no_value c.from_residual.result _ c.in_err-below.field-0.0 c.from_residual.ensures.1
+
+pub returns-in_err-below-clause-walk : goal.returns-in_err-below-clause-walk
+returns-in_err-below-clause-walk g c = no_value c.from_residual.result _ c.in_err-below.field-0.0 c.from_residual.ensures.1
+
+pub returns-in_err-below-clause-kept : goal.returns-in_err-below-clause-kept
+returns-in_err-below-clause-kept g c = c.cut_below.ensures.kept
+
+pub returns-in_err-below-clause-cause : goal.returns-in_err-below-clause-cause
+returns-in_err-below-clause-cause g c = cause_here (g.B.Ground.faults c.args.blocks.now) (g.B.Ground.faults c.cut_below.new.blocks) c.from_residual.result c.in_err-below.field-0.0 c.from_residual.ensures.1 c.in_err-below.ensures.cause
+
+pub returns-in_err-row-clause-counted : goal.returns-in_err-row-clause-counted
+returns-in_err-row-clause-counted g c = no_value c.from_residual-in_err-row.result _ c.in_err-row.field-0.0 c.from_residual-in_err-row.ensures.1
+
+pub returns-in_err-row-clause-opened : goal.returns-in_err-row-clause-opened
+returns-in_err-row-clause-opened g c = no_value c.from_residual-in_err-row.result _ c.in_err-row.field-0.0 c.from_residual-in_err-row.ensures.1
+
+pub returns-in_err-row-clause-way : goal.returns-in_err-row-clause-way
+returns-in_err-row-clause-way g c = no_value c.from_residual-in_err-row.result _ c.in_err-row.field-0.0 c.from_residual-in_err-row.ensures.1
+
+pub returns-in_err-row-clause-beside : goal.returns-in_err-row-clause-beside
+returns-in_err-row-clause-beside g c = no_value c.from_residual-in_err-row.result _ c.in_err-row.field-0.0 c.from_residual-in_err-row.ensures.1
+
+pub returns-in_err-row-clause-walk : goal.returns-in_err-row-clause-walk
+returns-in_err-row-clause-walk g c = no_value c.from_residual-in_err-row.result _ c.in_err-row.field-0.0 c.from_residual-in_err-row.ensures.1
+
+pub returns-in_err-row-clause-kept : goal.returns-in_err-row-clause-kept
+returns-in_err-row-clause-kept g c = keeps_on g.B.Ground c.args.blocks.now c.cut_below.new.blocks c.children_of.new.blocks c.in_ok-below.ensures.kept c.children_of.ensures.kept
+
+pub returns-in_err-row-clause-cause : goal.returns-in_err-row-clause-cause
+returns-in_err-row-clause-cause g c = cause_handed (g.B.Ground.faults c.args.blocks.now) (g.B.Ground.faults c.cut_below.new.blocks) (g.B.Ground.faults c.children_of.new.blocks) c.from_residual-in_err-row.result c.in_err-row.field-0.0 c.from_residual-in_err-row.ensures.1 (g.B.Ground.leads_faults c.args.blocks.now c.cut_below.new.blocks c.in_ok-below.ensures.kept.leads) c.in_err-row.ensures.cause
+
+pub returns-in_err-joined-clause-counted : goal.returns-in_err-joined-clause-counted
+returns-in_err-joined-clause-counted g c = no_value c.from_residual-in_err-joined.result _ Memory c.from_residual-in_err-joined.ensures.1
+
+pub returns-in_err-joined-clause-opened : goal.returns-in_err-joined-clause-opened
+returns-in_err-joined-clause-opened g c = no_value c.from_residual-in_err-joined.result _ Memory c.from_residual-in_err-joined.ensures.1
+
+pub returns-in_err-joined-clause-way : goal.returns-in_err-joined-clause-way
+returns-in_err-joined-clause-way g c = no_value c.from_residual-in_err-joined.result _ Memory c.from_residual-in_err-joined.ensures.1
+
+pub returns-in_err-joined-clause-beside : goal.returns-in_err-joined-clause-beside
+returns-in_err-joined-clause-beside g c = no_value c.from_residual-in_err-joined.result _ Memory c.from_residual-in_err-joined.ensures.1
+
+pub returns-in_err-joined-clause-walk : goal.returns-in_err-joined-clause-walk
+returns-in_err-joined-clause-walk g c = no_value c.from_residual-in_err-joined.result _ Memory c.from_residual-in_err-joined.ensures.1
+
+pub returns-in_err-joined-clause-fault : goal.returns-in_err-joined-clause-fault
+returns-in_err-joined-clause-fault g c = if_err_handed c.from_residual-in_err-joined.result _ Memory c.from_residual-in_err-joined.ensures.1 (λ told. tt)
+
+pub returns-in_err-joined-clause-kept : goal.returns-in_err-joined-clause-kept
+returns-in_err-joined-clause-kept g c = keeps_on g.B.Ground c.args.blocks.now c.cut_below.new.blocks c.children_of.new.blocks c.in_ok-below.ensures.kept c.children_of.ensures.kept
+
+pub returns-in_err-joined-clause-cause : goal.returns-in_err-joined-clause-cause
+returns-in_err-joined-clause-cause g c = cause_here (g.B.Ground.faults c.args.blocks.now) (g.B.Ground.faults c.children_of.new.blocks) c.from_residual-in_err-joined.result Memory c.from_residual-in_err-joined.ensures.1 tt
+
+pub returns-in_err-row-2-clause-counted : goal.returns-in_err-row-2-clause-counted
+returns-in_err-row-2-clause-counted g c = no_value c.from_residual-in_err-row-2.result _ c.in_err-row-2.field-0.0 c.from_residual-in_err-row-2.ensures.1
+
+pub returns-in_err-row-2-clause-opened : goal.returns-in_err-row-2-clause-opened
+returns-in_err-row-2-clause-opened g c = no_value c.from_residual-in_err-row-2.result _ c.in_err-row-2.field-0.0 c.from_residual-in_err-row-2.ensures.1
+
+pub returns-in_err-row-2-clause-way : goal.returns-in_err-row-2-clause-way
+returns-in_err-row-2-clause-way g c = no_value c.from_residual-in_err-row-2.result _ c.in_err-row-2.field-0.0 c.from_residual-in_err-row-2.ensures.1
+
+pub returns-in_err-row-2-clause-beside : goal.returns-in_err-row-2-clause-beside
+returns-in_err-row-2-clause-beside g c = no_value c.from_residual-in_err-row-2.result _ c.in_err-row-2.field-0.0 c.from_residual-in_err-row-2.ensures.1
+
+pub returns-in_err-row-2-clause-walk : goal.returns-in_err-row-2-clause-walk
+returns-in_err-row-2-clause-walk g c = no_value c.from_residual-in_err-row-2.result _ c.in_err-row-2.field-0.0 c.from_residual-in_err-row-2.ensures.1
+
+pub returns-in_err-row-2-clause-kept : goal.returns-in_err-row-2-clause-kept
+returns-in_err-row-2-clause-kept g c = keeps_on g.B.Ground c.args.blocks.now c.cut_below.new.blocks c.children_of-2.new.blocks c.in_ok-below.ensures.kept c.children_of-2.ensures.kept
+
+pub returns-in_err-row-2-clause-cause : goal.returns-in_err-row-2-clause-cause
+returns-in_err-row-2-clause-cause g c = cause_handed (g.B.Ground.faults c.args.blocks.now) (g.B.Ground.faults c.cut_below.new.blocks) (g.B.Ground.faults c.children_of-2.new.blocks) c.from_residual-in_err-row-2.result c.in_err-row-2.field-0.0 c.from_residual-in_err-row-2.ensures.1 (g.B.Ground.leads_faults c.args.blocks.now c.cut_below.new.blocks c.in_ok-below.ensures.kept.leads) c.in_err-row-2.ensures.cause
+
+pub returns-in_err-joined-2-clause-counted : goal.returns-in_err-joined-2-clause-counted
+returns-in_err-joined-2-clause-counted g c = no_value c.from_residual-in_err-joined-2.result _ Memory c.from_residual-in_err-joined-2.ensures.1
+
+pub returns-in_err-joined-2-clause-opened : goal.returns-in_err-joined-2-clause-opened
+returns-in_err-joined-2-clause-opened g c = no_value c.from_residual-in_err-joined-2.result _ Memory c.from_residual-in_err-joined-2.ensures.1
+
+pub returns-in_err-joined-2-clause-way : goal.returns-in_err-joined-2-clause-way
+returns-in_err-joined-2-clause-way g c = no_value c.from_residual-in_err-joined-2.result _ Memory c.from_residual-in_err-joined-2.ensures.1
+
+pub returns-in_err-joined-2-clause-beside : goal.returns-in_err-joined-2-clause-beside
+returns-in_err-joined-2-clause-beside g c = no_value c.from_residual-in_err-joined-2.result _ Memory c.from_residual-in_err-joined-2.ensures.1
+
+pub returns-in_err-joined-2-clause-walk : goal.returns-in_err-joined-2-clause-walk
+returns-in_err-joined-2-clause-walk g c = no_value c.from_residual-in_err-joined-2.result _ Memory c.from_residual-in_err-joined-2.ensures.1
+
+pub returns-in_err-joined-2-clause-fault : goal.returns-in_err-joined-2-clause-fault
+returns-in_err-joined-2-clause-fault g c = if_err_handed c.from_residual-in_err-joined-2.result _ Memory c.from_residual-in_err-joined-2.ensures.1 (λ told. tt)
+
+pub returns-in_err-joined-2-clause-kept : goal.returns-in_err-joined-2-clause-kept
+returns-in_err-joined-2-clause-kept g c = keeps_on g.B.Ground c.args.blocks.now c.cut_below.new.blocks c.children_of-2.new.blocks c.in_ok-below.ensures.kept c.children_of-2.ensures.kept
+
+pub returns-in_err-joined-2-clause-cause : goal.returns-in_err-joined-2-clause-cause
+returns-in_err-joined-2-clause-cause g c = cause_here (g.B.Ground.faults c.args.blocks.now) (g.B.Ground.faults c.children_of-2.new.blocks) c.from_residual-in_err-joined-2.result Memory c.from_residual-in_err-joined-2.ensures.1 tt
+
+pub returns-then-fan-len-clause-fault : goal.returns-then-fan-len-clause-fault
+returns-then-fan-len-clause-fault g c = tt
+
+pub returns-then-fan-len-clause-cause : goal.returns-then-fan-len-clause-cause
+returns-then-fan-len-clause-cause g c = tt
+
+pub returns-then-fan-len-clause-kept : goal.returns-then-fan-len-clause-kept
+returns-then-fan-len-clause-kept g c = c.in_ok-below.ensures.kept
+
+pub returns-in-Some-clause-fault : goal.returns-in-Some-clause-fault
+returns-in-Some-clause-fault g c = tt
+
+pub returns-in-Some-clause-cause : goal.returns-in-Some-clause-cause
+returns-in-Some-clause-cause g c = tt
+
+pub returns-in-Some-clause-kept : goal.returns-in-Some-clause-kept
+returns-in-Some-clause-kept g c = keeps_on g.B.Ground c.args.blocks.now c.cut_below.new.blocks c.children_of.new.blocks c.in_ok-below.ensures.kept c.children_of.ensures.kept
+
+pub returns-clause-fault : goal.returns-clause-fault
+returns-clause-fault g c = tt
+
+pub returns-clause-cause : goal.returns-clause-cause
+returns-clause-cause g c = tt
+
+pub returns-clause-kept : goal.returns-clause-kept
+returns-clause-kept g c = keeps_on g.B.Ground c.args.blocks.now c.cut_below.new.blocks c.children_of-2.new.blocks c.in_ok-below.ensures.kept c.children_of-2.ensures.kept
+
+pub cut_below-requires-clause-ready : goal.cut_below-requires-clause-ready
+cut_below-requires-clause-ready g c = c.requires.ready
+
+pub cut_below-requires-clause-level : goal.cut_below-requires-clause-level
+cut_below-requires-clause-level g c = c.requires.level

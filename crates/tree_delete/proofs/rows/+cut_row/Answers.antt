@@ -7,21 +7,23 @@ use Rattle.ex_base.specs.declared.geometry.Geometry.{Geometry}
 use Rattle.ex_base.specs.declared.names.Area.{Area}
 use Rattle.ex_base.specs.declared.names.Area.TheVariants.{Page, Segment}
 use Rattle.ex_base.specs.Sizes.{leaf_bytes}
-use Rattle.ex_base.proofs.Results.{if_err_handed, if_ok_from}
+use Rattle.ex_base.proofs.Results.{if_err_handed, if_ok_from, cause_handed}
 use Rattle.ex_base.proofs.Geometries.{page_le}
 use Rattle.trees.specs.Split.{nodes_for}
 use Rattle.trees.specs.declared.rows.Part.{Part}
 use Rattle.trees.specs.Rows.{row_size}
-use Rattle.trees.proofs.Laid.{extends_on, extends_kept}
+use Rattle.trees.proofs.Laid.{extends_on, extends_kept, extends_refl}
 use Rattle.tree_delete.specs.Cuts.{all_of, sides, HasSoundEnds, IsCutAt}
 use Rattle.trees.proofs.Paid.{some_node}
 use Rattle.trees.proofs.Parts.{narrow}
 use Rattle.tree_delete.proofs.Ends.{ends_kept, ends_low, ends_nowhere}
 use Rattle.trees.specs.Damage.{IsWalkFault}
-use Rattle.trees.proofs.Blame.{walk_back}
+use Rattle.trees.proofs.Blame.{walk_back, walk_undamaged}
 use Rattle.tree_delete.proofs.RowLaws.{no_size, left_at, whole_left, tree_left, node_left_of, made_few}
 use Rattle.tree_delete.specs.Beside.{OpensSound}
 use Rattle.tree_delete.proofs.Beside.{beside_low, beside_nowhere, opens_kept}
+use Rattle.ex_base.proofs.Handed.{no_value, not_given, cause_here}
+use Rattle.ex_base.specs.declared.faults.PortFault.TheVariants.{Memory}
 use Rattle.tree_delete.proofs.rows.+cut_row.Goals as goal
 
 pub returns-then-level-eq0-clause-left : goal.returns-then-level-eq0-clause-left
@@ -150,3 +152,224 @@ returns-clause-beside g t c = λ told least only.
     (c.in_ok-left.ensures.beside told
     (opens_kept g.B.Ground c.args.blocks.now c.open.new.blocks (c.args.level - 1) (g.B.Ground.geometry c.args.blocks.now).fan c.in_ok-left.field-0.below c.in_ok-left.ensures.kept
     (λ told_b. c.in_ok-kept.ensures.beside told_b (g.B.Ground.geometry c.args.blocks.now).fan (λ some. ap (λ (k : Geometry). k.fan) (sym (g.B.Ground.leads_geometry c.args.blocks.now c.open.new.blocks c.in_ok-left.ensures.kept.leads)))) told))
+
+-- ---- what else is asked and promised
+
+pub returns-in_err-joined-clause-beside : goal.returns-in_err-joined-clause-beside
+returns-in_err-joined-clause-beside g t c = not_given c.from_residual.result _ Memory c.from_residual.ensures.1
+
+pub returns-in_err-left-clause-beside : goal.returns-in_err-left-clause-beside
+returns-in_err-left-clause-beside g t c = not_given c.from_residual-in_err-left.result _ c.in_err-left.field-0.0 c.from_residual-in_err-left.ensures.1
+
+pub returns-in_err-kept-clause-beside : goal.returns-in_err-kept-clause-beside
+returns-in_err-kept-clause-beside g t c = not_given c.from_residual-in_err-kept.result _ c.in_err-kept.field-0.0 c.from_residual-in_err-kept.ensures.1
+
+pub returns-in_err-made-clause-beside : goal.returns-in_err-made-clause-beside
+returns-in_err-made-clause-beside g t c = not_given c.from_residual-in_err-made.result _ c.in_err-made.field-0.0 c.from_residual-in_err-made.ensures.1
+
+pub returns-in_err-joined-2-clause-beside : goal.returns-in_err-joined-2-clause-beside
+returns-in_err-joined-2-clause-beside g t c = not_given c.from_residual-in_err-joined-2.result _ Memory c.from_residual-in_err-joined-2.ensures.1
+
+pub cut_leaves-requires-clause-buffer : goal.cut_leaves-requires-clause-buffer
+cut_leaves-requires-clause-buffer g t c = c.requires.buffer
+
+pub returns-in_err-joined-clause-cause : goal.returns-in_err-joined-clause-cause
+returns-in_err-joined-clause-cause g t c = cause_here (g.B.Ground.faults c.args.blocks.now) (g.B.Ground.faults c.args.blocks.now) c.from_residual.result Memory c.from_residual.ensures.1 tt
+
+pub returns-in_err-left-clause-cause : goal.returns-in_err-left-clause-cause
+returns-in_err-left-clause-cause g t c = cause_here (g.B.Ground.faults c.args.blocks.now) (g.B.Ground.faults c.open.new.blocks) c.from_residual-in_err-left.result c.in_err-left.field-0.0 c.from_residual-in_err-left.ensures.1 c.in_err-left.ensures.cause
+
+pub returns-in_err-kept-clause-cause : goal.returns-in_err-kept-clause-cause
+returns-in_err-kept-clause-cause g t c = cause_handed (g.B.Ground.faults c.args.blocks.now) (g.B.Ground.faults c.open.new.blocks) (g.B.Ground.faults c.cut_row.new.blocks) c.from_residual-in_err-kept.result c.in_err-kept.field-0.0 c.from_residual-in_err-kept.ensures.1 (g.B.Ground.leads_faults c.args.blocks.now c.open.new.blocks c.open.ensures.kept.leads) c.in_err-kept.ensures.cause
+
+pub returns-in_err-joined-2-clause-cause : goal.returns-in_err-joined-2-clause-cause
+returns-in_err-joined-2-clause-cause g t c = cause_here (g.B.Ground.faults c.args.blocks.now) (g.B.Ground.faults c.nodes_over.new.blocks) c.from_residual-in_err-joined-2.result Memory c.from_residual-in_err-joined-2.ensures.1 tt
+
+pub returns-clause-cause : goal.returns-clause-cause
+returns-clause-cause g t c = tt
+
+pub returns-then-level-eq0-clause-cause : goal.returns-then-level-eq0-clause-cause
+returns-then-level-eq0-clause-cause g t c = c.cut_leaves.ensures.cause
+
+pub returns-then-is_empty-clause-cause : goal.returns-then-is_empty-clause-cause
+returns-then-is_empty-clause-cause g t c = tt
+
+pub open-requires-clause-cut_at : goal.open-requires-clause-cut_at
+open-requires-clause-cut_at g t c = c.requires.cut_at
+
+pub returns-in_err-joined-clause-extends : goal.returns-in_err-joined-clause-extends
+returns-in_err-joined-clause-extends g t c = not_given c.from_residual.result _ Memory c.from_residual.ensures.1
+
+pub returns-in_err-left-clause-extends : goal.returns-in_err-left-clause-extends
+returns-in_err-left-clause-extends g t c = not_given c.from_residual-in_err-left.result _ c.in_err-left.field-0.0 c.from_residual-in_err-left.ensures.1
+
+pub returns-in_err-kept-clause-extends : goal.returns-in_err-kept-clause-extends
+returns-in_err-kept-clause-extends g t c = not_given c.from_residual-in_err-kept.result _ c.in_err-kept.field-0.0 c.from_residual-in_err-kept.ensures.1
+
+pub returns-in_err-made-clause-extends : goal.returns-in_err-made-clause-extends
+returns-in_err-made-clause-extends g t c = not_given c.from_residual-in_err-made.result _ c.in_err-made.field-0.0 c.from_residual-in_err-made.ensures.1
+
+pub returns-in_err-joined-2-clause-extends : goal.returns-in_err-joined-2-clause-extends
+returns-in_err-joined-2-clause-extends g t c = not_given c.from_residual-in_err-joined-2.result _ Memory c.from_residual-in_err-joined-2.ensures.1
+
+pub returns-then-level-eq0-clause-extends : goal.returns-then-level-eq0-clause-extends
+returns-then-level-eq0-clause-extends g t c = c.cut_leaves.ensures.extends
+
+pub returns-then-is_empty-clause-extends : goal.returns-then-is_empty-clause-extends
+returns-then-is_empty-clause-extends g t c = extends_refl g.B.Ground c.args.blocks.now
+
+pub returns-in_err-joined-clause-fault : goal.returns-in_err-joined-clause-fault
+returns-in_err-joined-clause-fault g t c = if_err_handed c.from_residual.result _ Memory c.from_residual.ensures.1 (λ told least same. tt)
+
+pub returns-in_err-made-clause-fault : goal.returns-in_err-made-clause-fault
+returns-in_err-made-clause-fault g t c = if_err_handed c.from_residual-in_err-made.result _ c.in_err-made.field-0.0 c.from_residual-in_err-made.ensures.1 (λ told least same. walk_undamaged (g.B.Ground.geometry c.args.blocks.now) (g.B.Ground.unit c.args.blocks.now) c.args.level least (all_of c.args.cut) c.in_err-made.field-0.0 c.in_err-made.ensures.no_damage)
+
+pub returns-in_err-joined-2-clause-fault : goal.returns-in_err-joined-2-clause-fault
+returns-in_err-joined-2-clause-fault g t c = if_err_handed c.from_residual-in_err-joined-2.result _ Memory c.from_residual-in_err-joined-2.ensures.1 (λ told least same. tt)
+
+pub returns-clause-fault : goal.returns-clause-fault
+returns-clause-fault g t c = tt
+
+pub returns-then-is_empty-clause-fault : goal.returns-then-is_empty-clause-fault
+returns-then-is_empty-clause-fault g t c = tt
+
+pub cut_leaves-requires-clause-free : goal.cut_leaves-requires-clause-free
+cut_leaves-requires-clause-free g t c = c.requires.free
+
+pub returns-in_err-joined-clause-leads : goal.returns-in_err-joined-clause-leads
+returns-in_err-joined-clause-leads g t c = g.B.Ground.leads_refl c.args.blocks.now
+
+pub returns-in_err-left-clause-leads : goal.returns-in_err-left-clause-leads
+returns-in_err-left-clause-leads g t c = c.open.ensures.kept.leads
+
+pub returns-in_err-kept-clause-leads : goal.returns-in_err-kept-clause-leads
+returns-in_err-kept-clause-leads g t c = g.B.Ground.leads_trans c.args.blocks.now c.open.new.blocks c.cut_row.new.blocks c.open.ensures.kept.leads c.in_err-kept.ensures.leads
+
+pub returns-in_err-made-clause-leads : goal.returns-in_err-made-clause-leads
+returns-in_err-made-clause-leads g t c = g.B.Ground.leads_trans c.args.blocks.now c.open.new.blocks c.nodes_over.new.blocks c.open.ensures.kept.leads (g.B.Ground.leads_trans c.open.new.blocks c.cut_row.new.blocks c.nodes_over.new.blocks c.in_ok-kept.ensures.leads c.in_err-made.ensures.leads)
+
+pub returns-then-level-eq0-clause-leads : goal.returns-then-level-eq0-clause-leads
+returns-then-level-eq0-clause-leads g t c = c.cut_leaves.ensures.leads
+
+pub returns-then-is_empty-clause-leads : goal.returns-then-is_empty-clause-leads
+returns-then-is_empty-clause-leads g t c = g.B.Ground.leads_refl c.args.blocks.now
+
+pub returns-in_err-joined-clause-leaves : goal.returns-in_err-joined-clause-leaves
+returns-in_err-joined-clause-leaves g t c = not_given c.from_residual.result _ Memory c.from_residual.ensures.1
+
+pub returns-in_err-left-clause-leaves : goal.returns-in_err-left-clause-leaves
+returns-in_err-left-clause-leaves g t c = not_given c.from_residual-in_err-left.result _ c.in_err-left.field-0.0 c.from_residual-in_err-left.ensures.1
+
+pub returns-in_err-kept-clause-leaves : goal.returns-in_err-kept-clause-leaves
+returns-in_err-kept-clause-leaves g t c = not_given c.from_residual-in_err-kept.result _ c.in_err-kept.field-0.0 c.from_residual-in_err-kept.ensures.1
+
+pub returns-in_err-made-clause-leaves : goal.returns-in_err-made-clause-leaves
+returns-in_err-made-clause-leaves g t c = not_given c.from_residual-in_err-made.result _ c.in_err-made.field-0.0 c.from_residual-in_err-made.ensures.1
+
+pub returns-in_err-joined-2-clause-leaves : goal.returns-in_err-joined-2-clause-leaves
+returns-in_err-joined-2-clause-leaves g t c = not_given c.from_residual-in_err-joined-2.result _ Memory c.from_residual-in_err-joined-2.ensures.1
+
+pub returns-then-level-eq0-clause-leaves : goal.returns-then-level-eq0-clause-leaves
+returns-then-level-eq0-clause-leaves g t c = c.cut_leaves.ensures.leaves
+
+pub returns-then-is_empty-clause-leaves : goal.returns-then-is_empty-clause-leaves
+returns-then-is_empty-clause-leaves g t c = omega arith
+
+pub returns-in_err-joined-clause-left : goal.returns-in_err-joined-clause-left
+returns-in_err-joined-clause-left g t c = no_value c.from_residual.result _ Memory c.from_residual.ensures.1
+
+pub returns-in_err-left-clause-left : goal.returns-in_err-left-clause-left
+returns-in_err-left-clause-left g t c = no_value c.from_residual-in_err-left.result _ c.in_err-left.field-0.0 c.from_residual-in_err-left.ensures.1
+
+pub returns-in_err-kept-clause-left : goal.returns-in_err-kept-clause-left
+returns-in_err-kept-clause-left g t c = no_value c.from_residual-in_err-kept.result _ c.in_err-kept.field-0.0 c.from_residual-in_err-kept.ensures.1
+
+pub returns-in_err-made-clause-left : goal.returns-in_err-made-clause-left
+returns-in_err-made-clause-left g t c = no_value c.from_residual-in_err-made.result _ c.in_err-made.field-0.0 c.from_residual-in_err-made.ensures.1
+
+pub returns-in_err-joined-2-clause-left : goal.returns-in_err-joined-2-clause-left
+returns-in_err-joined-2-clause-left g t c = no_value c.from_residual-in_err-joined-2.result _ Memory c.from_residual-in_err-joined-2.ensures.1
+
+pub returns-in_err-joined-clause-left_of : goal.returns-in_err-joined-clause-left_of
+returns-in_err-joined-clause-left_of g t c = no_value c.from_residual.result _ Memory c.from_residual.ensures.1
+
+pub returns-in_err-left-clause-left_of : goal.returns-in_err-left-clause-left_of
+returns-in_err-left-clause-left_of g t c = no_value c.from_residual-in_err-left.result _ c.in_err-left.field-0.0 c.from_residual-in_err-left.ensures.1
+
+pub returns-in_err-kept-clause-left_of : goal.returns-in_err-kept-clause-left_of
+returns-in_err-kept-clause-left_of g t c = no_value c.from_residual-in_err-kept.result _ c.in_err-kept.field-0.0 c.from_residual-in_err-kept.ensures.1
+
+pub returns-in_err-made-clause-left_of : goal.returns-in_err-made-clause-left_of
+returns-in_err-made-clause-left_of g t c = no_value c.from_residual-in_err-made.result _ c.in_err-made.field-0.0 c.from_residual-in_err-made.ensures.1
+
+pub returns-in_err-joined-2-clause-left_of : goal.returns-in_err-joined-2-clause-left_of
+returns-in_err-joined-2-clause-left_of g t c = no_value c.from_residual-in_err-joined-2.result _ Memory c.from_residual-in_err-joined-2.ensures.1
+
+pub returns-then-level-eq0-clause-left_of : goal.returns-then-level-eq0-clause-left_of
+returns-then-level-eq0-clause-left_of g t c = c.cut_leaves.ensures.left_of
+
+pub open-requires-clause-level : goal.open-requires-clause-level
+open-requires-clause-level g t c = omega (arith, c.if-level-eq0.false)
+
+pub nodes_over-requires-clause-level : goal.nodes_over-requires-clause-level
+nodes_over-requires-clause-level g t c = omega (arith, c.if-level-eq0.false)
+
+pub returns-in_err-joined-clause-pages : goal.returns-in_err-joined-clause-pages
+returns-in_err-joined-clause-pages g t c = not_given c.from_residual.result _ Memory c.from_residual.ensures.1
+
+pub returns-in_err-left-clause-pages : goal.returns-in_err-left-clause-pages
+returns-in_err-left-clause-pages g t c = not_given c.from_residual-in_err-left.result _ c.in_err-left.field-0.0 c.from_residual-in_err-left.ensures.1
+
+pub returns-in_err-kept-clause-pages : goal.returns-in_err-kept-clause-pages
+returns-in_err-kept-clause-pages g t c = not_given c.from_residual-in_err-kept.result _ c.in_err-kept.field-0.0 c.from_residual-in_err-kept.ensures.1
+
+pub returns-in_err-made-clause-pages : goal.returns-in_err-made-clause-pages
+returns-in_err-made-clause-pages g t c = not_given c.from_residual-in_err-made.result _ c.in_err-made.field-0.0 c.from_residual-in_err-made.ensures.1
+
+pub returns-in_err-joined-2-clause-pages : goal.returns-in_err-joined-2-clause-pages
+returns-in_err-joined-2-clause-pages g t c = not_given c.from_residual-in_err-joined-2.result _ Memory c.from_residual-in_err-joined-2.ensures.1
+
+pub returns-then-is_empty-clause-pages : goal.returns-then-is_empty-clause-pages
+returns-then-is_empty-clause-pages g t c = omega arith
+
+pub open-requires-clause-ready : goal.open-requires-clause-ready
+open-requires-clause-ready g t c = c.requires.ready
+
+pub nodes_over-requires-clause-ready : goal.nodes_over-requires-clause-ready
+nodes_over-requires-clause-ready g t c = g.B.Ground.leads_ready c.open.new.blocks c.cut_row.new.blocks c.in_ok-kept.ensures.leads (g.B.Ground.leads_ready c.args.blocks.now c.open.new.blocks c.open.ensures.kept.leads c.requires.ready)
+
+pub cut_leaves-requires-clause-ready : goal.cut_leaves-requires-clause-ready
+cut_leaves-requires-clause-ready g t c = c.requires.ready
+
+pub returns-in_err-joined-clause-roots : goal.returns-in_err-joined-clause-roots
+returns-in_err-joined-clause-roots g t c = no_value c.from_residual.result _ Memory c.from_residual.ensures.1
+
+pub returns-in_err-left-clause-roots : goal.returns-in_err-left-clause-roots
+returns-in_err-left-clause-roots g t c = no_value c.from_residual-in_err-left.result _ c.in_err-left.field-0.0 c.from_residual-in_err-left.ensures.1
+
+pub returns-in_err-kept-clause-roots : goal.returns-in_err-kept-clause-roots
+returns-in_err-kept-clause-roots g t c = no_value c.from_residual-in_err-kept.result _ c.in_err-kept.field-0.0 c.from_residual-in_err-kept.ensures.1
+
+pub returns-in_err-made-clause-roots : goal.returns-in_err-made-clause-roots
+returns-in_err-made-clause-roots g t c = no_value c.from_residual-in_err-made.result _ c.in_err-made.field-0.0 c.from_residual-in_err-made.ensures.1
+
+pub returns-in_err-joined-2-clause-roots : goal.returns-in_err-joined-2-clause-roots
+returns-in_err-joined-2-clause-roots g t c = no_value c.from_residual-in_err-joined-2.result _ Memory c.from_residual-in_err-joined-2.ensures.1
+
+pub returns-in_err-joined-clause-way : goal.returns-in_err-joined-clause-way
+returns-in_err-joined-clause-way g t c = not_given c.from_residual.result _ Memory c.from_residual.ensures.1
+
+pub returns-in_err-left-clause-way : goal.returns-in_err-left-clause-way
+returns-in_err-left-clause-way g t c = not_given c.from_residual-in_err-left.result _ c.in_err-left.field-0.0 c.from_residual-in_err-left.ensures.1
+
+pub returns-in_err-kept-clause-way : goal.returns-in_err-kept-clause-way
+returns-in_err-kept-clause-way g t c = not_given c.from_residual-in_err-kept.result _ c.in_err-kept.field-0.0 c.from_residual-in_err-kept.ensures.1
+
+pub returns-in_err-made-clause-way : goal.returns-in_err-made-clause-way
+returns-in_err-made-clause-way g t c = not_given c.from_residual-in_err-made.result _ c.in_err-made.field-0.0 c.from_residual-in_err-made.ensures.1
+
+pub returns-in_err-joined-2-clause-way : goal.returns-in_err-joined-2-clause-way
+returns-in_err-joined-2-clause-way g t c = not_given c.from_residual-in_err-joined-2.result _ Memory c.from_residual-in_err-joined-2.ensures.1
+
+pub overflow_sub-level : goal.overflow_sub-level
+overflow_sub-level g t c = omega (arith, c.if-level-eq0.false)

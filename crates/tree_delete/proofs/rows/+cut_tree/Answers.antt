@@ -17,6 +17,8 @@ use Rattle.tree_delete.proofs.TreeLaws.{trimmed_here, trimmed_below}
 use Rattle.tree_delete.proofs.rows.+cut_tree.Goals.{then-level-eq0-via-then-level-eq0, then-level-eq0-via-else-level-eq0+then-not-is_empty, then-level-eq0-via-else-level-eq0+else-not-is_empty+then-not-is_empty-2}
 use Rattle.tree_delete.specs.Beside.{alone, OpensSound}
 use Rattle.tree_delete.proofs.Beside.{beside_up, opens_kept}
+use Rattle.ex_base.proofs.Handed.{no_value, not_given, cause_here}
+use Rattle.ex_base.proofs.Keeping.{cause_on}
 use Rattle.tree_delete.proofs.rows.+cut_tree.Goals as goal
 
 pub returns-then-level-eq0-clause-trimmed : goal.returns-then-level-eq0-clause-trimmed
@@ -103,3 +105,101 @@ returns-clause-beside g t c =
     (opens_kept g.B.Ground c.args.blocks.now c.cut_below.new.blocks (c.args.level - 1) (g.B.Ground.geometry c.args.blocks.now).fan c.in_ok-below.below c.in_ok-below.ensures.kept
     (λ told_b. subst (λ k. OpensSound (g.B.Ground.geometry c.cut_below.new.blocks) (g.B.Ground.unit c.cut_below.new.blocks) (c.args.level - 1) k c.in_ok-below.below)
     (ap (λ (k : Geometry). k.fan) (c.geometry-fan.ensures ∙ g.B.Ground.leads_geometry c.args.blocks.now c.cut_below.new.blocks c.in_ok-below.ensures.kept.leads)) (beside told_b)) told))) c.cut_tree.ensures.beside
+
+-- ---- what else is asked and promised
+
+pub returns-in_err-row-clause-low : goal.returns-in_err-row-clause-low
+returns-in_err-row-clause-low g t c = no_value c.from_residual.result _ c.in_err-row.field-0.0 c.from_residual.ensures.1
+
+pub returns-in_err-row-clause-sum : goal.returns-in_err-row-clause-sum
+returns-in_err-row-clause-sum g t c = no_value c.from_residual.result _ c.in_err-row.field-0.0 c.from_residual.ensures.1
+
+pub returns-in_err-row-clause-sizes : goal.returns-in_err-row-clause-sizes
+returns-in_err-row-clause-sizes g t c = no_value c.from_residual.result _ c.in_err-row.field-0.0 c.from_residual.ensures.1
+
+pub returns-in_err-row-clause-few : goal.returns-in_err-row-clause-few
+returns-in_err-row-clause-few g t c = no_value c.from_residual.result _ c.in_err-row.field-0.0 c.from_residual.ensures.1
+
+pub returns-in_err-row-clause-trimmed : goal.returns-in_err-row-clause-trimmed
+returns-in_err-row-clause-trimmed g t c = no_value c.from_residual.result _ c.in_err-row.field-0.0 c.from_residual.ensures.1
+
+pub returns-in_err-row-clause-extends : goal.returns-in_err-row-clause-extends
+returns-in_err-row-clause-extends g t c = not_given c.from_residual.result _ c.in_err-row.field-0.0 c.from_residual.ensures.1
+
+pub returns-in_err-row-clause-leaves : goal.returns-in_err-row-clause-leaves
+returns-in_err-row-clause-leaves g t c = not_given c.from_residual.result _ c.in_err-row.field-0.0 c.from_residual.ensures.1
+
+pub returns-in_err-row-clause-pages : goal.returns-in_err-row-clause-pages
+returns-in_err-row-clause-pages g t c = not_given c.from_residual.result _ c.in_err-row.field-0.0 c.from_residual.ensures.1
+
+pub returns-in_err-row-clause-way : goal.returns-in_err-row-clause-way
+returns-in_err-row-clause-way g t c = not_given c.from_residual.result _ c.in_err-row.field-0.0 c.from_residual.ensures.1
+
+pub returns-in_err-row-clause-beside : goal.returns-in_err-row-clause-beside
+returns-in_err-row-clause-beside g t c = not_given c.from_residual.result _ c.in_err-row.field-0.0 c.from_residual.ensures.1
+
+pub returns-in_err-row-clause-leads : goal.returns-in_err-row-clause-leads
+returns-in_err-row-clause-leads g t c = c.in_err-row.ensures.leads
+
+pub returns-in_err-row-clause-cause : goal.returns-in_err-row-clause-cause
+returns-in_err-row-clause-cause g t c = cause_here (g.B.Ground.faults c.args.blocks.now) (g.B.Ground.faults c.cut_row.new.blocks) c.from_residual.result c.in_err-row.field-0.0 c.from_residual.ensures.1 c.in_err-row.ensures.cause
+
+pub returns-in_err-below-clause-low : goal.returns-in_err-below-clause-low
+returns-in_err-below-clause-low g t c = no_value c.from_residual-in_err-below.result _ c.in_err-below.field-0.0 c.from_residual-in_err-below.ensures.1
+
+pub returns-in_err-below-clause-sum : goal.returns-in_err-below-clause-sum
+returns-in_err-below-clause-sum g t c = no_value c.from_residual-in_err-below.result _ c.in_err-below.field-0.0 c.from_residual-in_err-below.ensures.1
+
+pub returns-in_err-below-clause-sizes : goal.returns-in_err-below-clause-sizes
+returns-in_err-below-clause-sizes g t c = no_value c.from_residual-in_err-below.result _ c.in_err-below.field-0.0 c.from_residual-in_err-below.ensures.1
+
+pub returns-in_err-below-clause-few : goal.returns-in_err-below-clause-few
+returns-in_err-below-clause-few g t c = no_value c.from_residual-in_err-below.result _ c.in_err-below.field-0.0 c.from_residual-in_err-below.ensures.1
+
+pub returns-in_err-below-clause-trimmed : goal.returns-in_err-below-clause-trimmed
+returns-in_err-below-clause-trimmed g t c = no_value c.from_residual-in_err-below.result _ c.in_err-below.field-0.0 c.from_residual-in_err-below.ensures.1
+
+pub returns-in_err-below-clause-extends : goal.returns-in_err-below-clause-extends
+returns-in_err-below-clause-extends g t c = not_given c.from_residual-in_err-below.result _ c.in_err-below.field-0.0 c.from_residual-in_err-below.ensures.1
+
+pub returns-in_err-below-clause-leaves : goal.returns-in_err-below-clause-leaves
+returns-in_err-below-clause-leaves g t c = not_given c.from_residual-in_err-below.result _ c.in_err-below.field-0.0 c.from_residual-in_err-below.ensures.1
+
+pub returns-in_err-below-clause-pages : goal.returns-in_err-below-clause-pages
+returns-in_err-below-clause-pages g t c = not_given c.from_residual-in_err-below.result _ c.in_err-below.field-0.0 c.from_residual-in_err-below.ensures.1
+
+pub returns-in_err-below-clause-way : goal.returns-in_err-below-clause-way
+returns-in_err-below-clause-way g t c = not_given c.from_residual-in_err-below.result _ c.in_err-below.field-0.0 c.from_residual-in_err-below.ensures.1
+
+pub returns-in_err-below-clause-beside : goal.returns-in_err-below-clause-beside
+returns-in_err-below-clause-beside g t c = not_given c.from_residual-in_err-below.result _ c.in_err-below.field-0.0 c.from_residual-in_err-below.ensures.1
+
+pub returns-in_err-below-clause-leads : goal.returns-in_err-below-clause-leads
+returns-in_err-below-clause-leads g t c = c.cut_below.ensures.kept.leads
+
+pub returns-in_err-below-clause-cause : goal.returns-in_err-below-clause-cause
+returns-in_err-below-clause-cause g t c = cause_here (g.B.Ground.faults c.args.blocks.now) (g.B.Ground.faults c.cut_below.new.blocks) c.from_residual-in_err-below.result c.in_err-below.field-0.0 c.from_residual-in_err-below.ensures.1 c.in_err-below.ensures.cause
+
+pub returns-then-level-eq0-clause-cause : goal.returns-then-level-eq0-clause-cause
+returns-then-level-eq0-clause-cause g t c = tt
+
+pub returns-then-level-eq0-clause-fault : goal.returns-then-level-eq0-clause-fault
+returns-then-level-eq0-clause-fault g t c = tt
+
+pub returns-then-level-eq0-clause-leads : goal.returns-then-level-eq0-clause-leads
+returns-then-level-eq0-clause-leads g t c = c.in_ok-row.ensures.leads
+
+pub returns-then-level-eq0-clause-extends : goal.returns-then-level-eq0-clause-extends
+returns-then-level-eq0-clause-extends g t c = c.in_ok-row.ensures.extends
+
+pub returns-then-level-eq0-clause-leaves : goal.returns-then-level-eq0-clause-leaves
+returns-then-level-eq0-clause-leaves g t c = c.in_ok-row.ensures.leaves
+
+pub returns-then-level-eq0-clause-pages : goal.returns-then-level-eq0-clause-pages
+returns-then-level-eq0-clause-pages g t c = c.in_ok-row.ensures.pages
+
+pub returns-clause-leads : goal.returns-clause-leads
+returns-clause-leads g t c = g.B.Ground.leads_trans c.args.blocks.now c.cut_below.new.blocks c.cut_tree.new.blocks c.in_ok-below.ensures.kept.leads c.cut_tree.ensures.leads
+
+pub returns-clause-cause : goal.returns-clause-cause
+returns-clause-cause g t c = cause_on (g.B.Ground.faults c.args.blocks.now) (g.B.Ground.faults c.cut_below.new.blocks) (g.B.Ground.faults c.cut_tree.new.blocks) c.cut_tree.result (g.B.Ground.leads_faults c.args.blocks.now c.cut_below.new.blocks c.in_ok-below.ensures.kept.leads) c.cut_tree.ensures.cause

@@ -3,7 +3,7 @@ use Rattle.std.proofs.lemmas.Result.{IfOk-at_ok}
 use Rattle.ex_base.specs.declared.geometry.Geometry.{Geometry}
 use Rattle.ex_base.specs.declared.names.Area.TheVariants.{Page}
 use Rattle.ex_base.specs.Needs.{growth_leaves}
-use Rattle.ex_base.proofs.Results.{from_ok, if_ok_from, on_ok_from}
+use Rattle.ex_base.proofs.Results.{from_ok, if_ok_from, on_ok_from, if_err_handed}
 use Rattle.trees.specs.declared.rows.Part.{Part}
 use Rattle.trees.specs.Made.{Holds}
 use Rattle.trees.proofs.Laid.{extends_on}
@@ -11,6 +11,9 @@ use Rattle.trees.specs.Grown.{IsRooted}
 use Rattle.tree_insert.specs.Need.{counted}
 use Rattle.trees.proofs.Paid.{rise_first}
 use Rattle.tree_insert.proofs.RootEdit.{edited, few_roots, enough_pages, enough_roots, taken_pages}
+use Rattle.ex_base.proofs.Handed.{no_value, not_given, cause_here}
+use Rattle.ex_base.specs.declared.faults.PortFault.TheVariants.{Memory}
+use Rattle.ex_base.proofs.Keeping.{cause_on}
 use Rattle.tree_insert.proofs.edit.grow.Goals as goal
 
 pub new_parts-requires-clause-pages : goal.new_parts-requires-clause-pages
@@ -51,3 +54,83 @@ returns-clause-edited g c =
 
 pub returns-clause-way : goal.returns-clause-way
 returns-clause-way g c = on_ok_from c.rooted.result _ (λ made is told. c.in_ok-row.ensures.way told)
+
+-- ---- what else is asked and promised
+
+pub returns-in_err-buffer-clause-edited : goal.returns-in_err-buffer-clause-edited
+returns-in_err-buffer-clause-edited g c = no_value c.from_residual.result _ Memory c.from_residual.ensures.1
+
+pub returns-in_err-buffer-clause-size : goal.returns-in_err-buffer-clause-size
+returns-in_err-buffer-clause-size g c = no_value c.from_residual.result _ Memory c.from_residual.ensures.1
+
+pub returns-in_err-buffer-clause-extends : goal.returns-in_err-buffer-clause-extends
+returns-in_err-buffer-clause-extends g c = not_given c.from_residual.result _ Memory c.from_residual.ensures.1
+
+pub returns-in_err-buffer-clause-leaves : goal.returns-in_err-buffer-clause-leaves
+returns-in_err-buffer-clause-leaves g c = not_given c.from_residual.result _ Memory c.from_residual.ensures.1
+
+pub returns-in_err-buffer-clause-pages : goal.returns-in_err-buffer-clause-pages
+returns-in_err-buffer-clause-pages g c = not_given c.from_residual.result _ Memory c.from_residual.ensures.1
+
+pub returns-in_err-buffer-clause-way : goal.returns-in_err-buffer-clause-way
+returns-in_err-buffer-clause-way g c = not_given c.from_residual.result _ Memory c.from_residual.ensures.1
+
+pub returns-in_err-buffer-clause-fault : goal.returns-in_err-buffer-clause-fault
+returns-in_err-buffer-clause-fault g c = if_err_handed c.from_residual.result _ Memory c.from_residual.ensures.1 (λ told. tt)
+
+pub returns-in_err-buffer-clause-leads : goal.returns-in_err-buffer-clause-leads
+returns-in_err-buffer-clause-leads g c = g.B.Ground.leads_refl c.args.blocks.now
+
+pub returns-in_err-buffer-clause-cause : goal.returns-in_err-buffer-clause-cause
+returns-in_err-buffer-clause-cause g c = cause_here (g.B.Ground.faults c.args.blocks.now) (g.B.Ground.faults c.args.blocks.now) c.from_residual.result Memory c.from_residual.ensures.1 tt
+
+pub returns-in_err-row-clause-edited : goal.returns-in_err-row-clause-edited
+returns-in_err-row-clause-edited g c = no_value c.from_residual-in_err-row.result _ c.in_err-row.field-0.0 c.from_residual-in_err-row.ensures.1
+
+pub returns-in_err-row-clause-size : goal.returns-in_err-row-clause-size
+returns-in_err-row-clause-size g c = no_value c.from_residual-in_err-row.result _ c.in_err-row.field-0.0 c.from_residual-in_err-row.ensures.1
+
+pub returns-in_err-row-clause-extends : goal.returns-in_err-row-clause-extends
+returns-in_err-row-clause-extends g c = not_given c.from_residual-in_err-row.result _ c.in_err-row.field-0.0 c.from_residual-in_err-row.ensures.1
+
+pub returns-in_err-row-clause-leaves : goal.returns-in_err-row-clause-leaves
+returns-in_err-row-clause-leaves g c = not_given c.from_residual-in_err-row.result _ c.in_err-row.field-0.0 c.from_residual-in_err-row.ensures.1
+
+pub returns-in_err-row-clause-pages : goal.returns-in_err-row-clause-pages
+returns-in_err-row-clause-pages g c = not_given c.from_residual-in_err-row.result _ c.in_err-row.field-0.0 c.from_residual-in_err-row.ensures.1
+
+pub returns-in_err-row-clause-way : goal.returns-in_err-row-clause-way
+returns-in_err-row-clause-way g c = not_given c.from_residual-in_err-row.result _ c.in_err-row.field-0.0 c.from_residual-in_err-row.ensures.1
+
+pub returns-in_err-row-clause-fault : goal.returns-in_err-row-clause-fault
+returns-in_err-row-clause-fault g c = if_err_handed c.from_residual-in_err-row.result _ c.in_err-row.field-0.0 c.from_residual-in_err-row.ensures.1 c.in_err-row.ensures.fault
+
+pub returns-in_err-row-clause-leads : goal.returns-in_err-row-clause-leads
+returns-in_err-row-clause-leads g c = c.in_err-row.ensures.leads
+
+pub returns-in_err-row-clause-cause : goal.returns-in_err-row-clause-cause
+returns-in_err-row-clause-cause g c = cause_here (g.B.Ground.faults c.args.blocks.now) (g.B.Ground.faults c.new_parts.new.blocks) c.from_residual-in_err-row.result c.in_err-row.field-0.0 c.from_residual-in_err-row.ensures.1 c.in_err-row.ensures.cause
+
+pub returns-clause-leads : goal.returns-clause-leads
+returns-clause-leads g c = g.B.Ground.leads_trans c.args.blocks.now c.new_parts.new.blocks c.rooted.new.blocks c.in_ok-row.ensures.leads c.rooted.ensures.leads
+
+pub returns-clause-cause : goal.returns-clause-cause
+returns-clause-cause g c = cause_on (g.B.Ground.faults c.args.blocks.now) (g.B.Ground.faults c.new_parts.new.blocks) (g.B.Ground.faults c.rooted.new.blocks) c.rooted.result (g.B.Ground.leads_faults c.args.blocks.now c.new_parts.new.blocks c.in_ok-row.ensures.leads) c.rooted.ensures.cause
+
+pub rooted-requires-clause-ready : goal.rooted-requires-clause-ready
+rooted-requires-clause-ready g c = g.B.Ground.leads_ready c.args.blocks.now c.new_parts.new.blocks c.in_ok-row.ensures.leads c.requires.ready
+
+pub new_parts-requires-clause-ready : goal.new_parts-requires-clause-ready
+new_parts-requires-clause-ready g c = c.requires.ready
+
+pub new_parts-requires-clause-root : goal.new_parts-requires-clause-root
+new_parts-requires-clause-root g c = c.requires.root
+
+pub new_parts-requires-clause-given : goal.new_parts-requires-clause-given
+new_parts-requires-clause-given g c = c.requires.given
+
+pub new_parts-requires-clause-limit : goal.new_parts-requires-clause-limit
+new_parts-requires-clause-limit g c = c.requires.limit
+
+pub new_parts-requires-clause-spot : goal.new_parts-requires-clause-spot
+new_parts-requires-clause-spot g c = c.requires.spot

@@ -26,8 +26,10 @@ use Rattle.trees.proofs.Ways.{way_kept, way_low, way_one}
 use Rattle.ex_base.proofs.Keeping.{cause_on}
 use Rattle.ex_base.proofs.Geometries.{page_le}
 use Rattle.ex_base.proofs.NeedLaws.{growth_few}
-use Rattle.ex_base.proofs.Results.{from_ok, if_ok_from, on_ok_from}
+use Rattle.ex_base.proofs.Results.{from_ok, if_ok_from, on_ok_from, cause_handed, if_err_handed}
 use Rattle.tree_insert.proofs.RootGrow.{lone_grew, root_grew}
+use Rattle.ex_base.proofs.Handed.{no_value, not_given, cause_here}
+use Rattle.trees.proofs.Blame.{walk_node}
 use Rattle.tree_insert.proofs.edit.grow_root.Goals as goal
 
 pub returns-then-height-eq0-clause-paid : goal.returns-then-height-eq0-clause-paid
@@ -179,3 +181,101 @@ returns-clause-way g c = on_ok_from c.nodes_over.result _ (λ made is told.
     (way_kept g.B.Ground NamesLeaf c.args.blocks.now c.row_of.new.blocks (c.args.height - 1) (g.B.Ground.geometry c.args.blocks.now).fan c.in_ok-below.below.items (c.args.pos - 1) (c.args.pos - 1) c.in_ok-below.ensures.kept
     (λ later. subst (λ k. IsSoundWay (g.B.Ground.geometry c.row_of.new.blocks) (g.B.Ground.unit c.row_of.new.blocks) (NamesLeaf (g.B.Ground.geometry c.row_of.new.blocks)) (c.args.height - 1) k c.in_ok-below.below.items (c.args.pos - 1) (c.args.pos - 1)) (ap (λ (geo : Geometry). geo.fan) (g.B.Ground.leads_geometry c.args.blocks.now c.row_of.new.blocks c.in_ok-below.ensures.kept.leads))
     (subst (λ r. IsSoundWay (g.B.Ground.geometry c.row_of.new.blocks) (g.B.Ground.unit c.row_of.new.blocks) (NamesLeaf (g.B.Ground.geometry c.row_of.new.blocks)) (c.args.height - 1) (g.B.Ground.geometry c.row_of.new.blocks).fan r (c.args.pos - 1) (c.args.pos - 1)) c.deref.ensures.value (c.in_ok-grown.ensures.way later))) told))
+
+-- ---- what else is asked and promised
+
+pub returns-in_err-below-clause-grown : goal.returns-in_err-below-clause-grown
+returns-in_err-below-clause-grown g c = no_value c.from_residual.result _ c.in_err-below.field-0.0 c.from_residual.ensures.1
+
+pub returns-in_err-below-clause-paid : goal.returns-in_err-below-clause-paid
+returns-in_err-below-clause-paid g c = no_value c.from_residual.result _ c.in_err-below.field-0.0 c.from_residual.ensures.1
+
+pub returns-in_err-below-clause-grew : goal.returns-in_err-below-clause-grew
+returns-in_err-below-clause-grew g c = no_value c.from_residual.result _ c.in_err-below.field-0.0 c.from_residual.ensures.1
+
+pub returns-in_err-below-clause-extends : goal.returns-in_err-below-clause-extends
+returns-in_err-below-clause-extends g c = not_given c.from_residual.result _ c.in_err-below.field-0.0 c.from_residual.ensures.1
+
+pub returns-in_err-below-clause-leaves : goal.returns-in_err-below-clause-leaves
+returns-in_err-below-clause-leaves g c = not_given c.from_residual.result _ c.in_err-below.field-0.0 c.from_residual.ensures.1
+
+pub returns-in_err-below-clause-way : goal.returns-in_err-below-clause-way
+returns-in_err-below-clause-way g c = not_given c.from_residual.result _ c.in_err-below.field-0.0 c.from_residual.ensures.1
+
+pub returns-in_err-below-clause-fault : goal.returns-in_err-below-clause-fault
+returns-in_err-below-clause-fault g c = if_err_handed c.from_residual.result _ c.in_err-below.field-0.0 c.from_residual.ensures.1 (λ told. walk_node (g.B.Ground.geometry c.args.blocks.now) (g.B.Ground.unit c.args.blocks.now) c.args.height 2 0 (c.args.tree ∷ []) c.in_err-below.field-0.0 c.if-height-eq0.false (omega arith) (c.in_err-below.ensures.fault told))
+
+pub returns-in_err-below-clause-leads : goal.returns-in_err-below-clause-leads
+returns-in_err-below-clause-leads g c = c.row_of.ensures.kept.leads
+
+pub returns-in_err-below-clause-cause : goal.returns-in_err-below-clause-cause
+returns-in_err-below-clause-cause g c = cause_here (g.B.Ground.faults c.args.blocks.now) (g.B.Ground.faults c.row_of.new.blocks) c.from_residual.result c.in_err-below.field-0.0 c.from_residual.ensures.1 c.in_err-below.ensures.cause
+
+pub returns-in_err-grown-clause-grown : goal.returns-in_err-grown-clause-grown
+returns-in_err-grown-clause-grown g c = no_value c.from_residual-in_err-grown.result _ c.in_err-grown.field-0.0 c.from_residual-in_err-grown.ensures.1
+
+pub returns-in_err-grown-clause-paid : goal.returns-in_err-grown-clause-paid
+returns-in_err-grown-clause-paid g c = no_value c.from_residual-in_err-grown.result _ c.in_err-grown.field-0.0 c.from_residual-in_err-grown.ensures.1
+
+pub returns-in_err-grown-clause-grew : goal.returns-in_err-grown-clause-grew
+returns-in_err-grown-clause-grew g c = no_value c.from_residual-in_err-grown.result _ c.in_err-grown.field-0.0 c.from_residual-in_err-grown.ensures.1
+
+pub returns-in_err-grown-clause-extends : goal.returns-in_err-grown-clause-extends
+returns-in_err-grown-clause-extends g c = not_given c.from_residual-in_err-grown.result _ c.in_err-grown.field-0.0 c.from_residual-in_err-grown.ensures.1
+
+pub returns-in_err-grown-clause-leaves : goal.returns-in_err-grown-clause-leaves
+returns-in_err-grown-clause-leaves g c = not_given c.from_residual-in_err-grown.result _ c.in_err-grown.field-0.0 c.from_residual-in_err-grown.ensures.1
+
+pub returns-in_err-grown-clause-way : goal.returns-in_err-grown-clause-way
+returns-in_err-grown-clause-way g c = not_given c.from_residual-in_err-grown.result _ c.in_err-grown.field-0.0 c.from_residual-in_err-grown.ensures.1
+
+pub returns-in_err-grown-clause-leads : goal.returns-in_err-grown-clause-leads
+returns-in_err-grown-clause-leads g c = g.B.Ground.leads_trans c.args.blocks.now c.row_of.new.blocks c.grow_row.new.blocks c.in_ok-below.ensures.kept.leads c.in_err-grown.ensures.leads
+
+pub returns-in_err-grown-clause-cause : goal.returns-in_err-grown-clause-cause
+returns-in_err-grown-clause-cause g c = cause_handed (g.B.Ground.faults c.args.blocks.now) (g.B.Ground.faults c.row_of.new.blocks) (g.B.Ground.faults c.grow_row.new.blocks) c.from_residual-in_err-grown.result c.in_err-grown.field-0.0 c.from_residual-in_err-grown.ensures.1 (g.B.Ground.leads_faults c.args.blocks.now c.row_of.new.blocks c.in_ok-below.ensures.kept.leads) c.in_err-grown.ensures.cause
+
+pub returns-then-height-eq0-clause-cause : goal.returns-then-height-eq0-clause-cause
+returns-then-height-eq0-clause-cause g c = c.grow_leaves.ensures.cause
+
+pub returns-then-height-eq0-clause-extends : goal.returns-then-height-eq0-clause-extends
+returns-then-height-eq0-clause-extends g c = c.grow_leaves.ensures.extends
+
+pub returns-then-height-eq0-clause-grown : goal.returns-then-height-eq0-clause-grown
+returns-then-height-eq0-clause-grown g c = c.grow_leaves.ensures.grown
+
+pub returns-then-height-eq0-clause-leads : goal.returns-then-height-eq0-clause-leads
+returns-then-height-eq0-clause-leads g c = c.grow_leaves.ensures.leads
+
+pub returns-then-height-eq0-clause-leaves : goal.returns-then-height-eq0-clause-leaves
+returns-then-height-eq0-clause-leaves g c = c.grow_leaves.ensures.leaves
+
+pub grow_leaves-requires-clause-buffer : goal.grow_leaves-requires-clause-buffer
+grow_leaves-requires-clause-buffer g c = c.requires.buffer
+
+pub grow_leaves-requires-clause-free : goal.grow_leaves-requires-clause-free
+grow_leaves-requires-clause-free g c = c.requires.free
+
+pub grow_leaves-requires-clause-given : goal.grow_leaves-requires-clause-given
+grow_leaves-requires-clause-given g c = c.requires.given
+
+pub grow_leaves-requires-clause-ready : goal.grow_leaves-requires-clause-ready
+grow_leaves-requires-clause-ready g c = c.requires.ready
+
+pub overflow_sub-height : goal.overflow_sub-height
+overflow_sub-height g c = omega (arith, c.if-height-eq0.false)
+
+pub grow_row-requires-clause-given : goal.grow_row-requires-clause-given
+grow_row-requires-clause-given g c = c.requires.given
+
+pub grow_row-requires-clause-ready : goal.grow_row-requires-clause-ready
+grow_row-requires-clause-ready g c = g.B.Ground.leads_ready c.args.blocks.now c.row_of.new.blocks c.in_ok-below.ensures.kept.leads c.requires.ready
+
+pub row_of-requires : goal.row_of-requires
+row_of-requires g c = c.requires.ready
+
+pub nodes_over-requires-clause-level : goal.nodes_over-requires-clause-level
+nodes_over-requires-clause-level g c = omega (arith, c.if-height-eq0.false)
+
+pub nodes_over-requires-clause-ready : goal.nodes_over-requires-clause-ready
+nodes_over-requires-clause-ready g c = g.B.Ground.leads_ready c.row_of.new.blocks c.grow_row.new.blocks c.in_ok-grown.ensures.leads (g.B.Ground.leads_ready c.args.blocks.now c.row_of.new.blocks c.in_ok-below.ensures.kept.leads c.requires.ready)

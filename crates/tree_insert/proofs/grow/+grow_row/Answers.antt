@@ -1,6 +1,6 @@
 use Rattle.std.proofs.Common.{arith, rules, ℕ, List, ◌≡◌, ◌≤◌, ◌<◌, ◌+◌, ◌-◌, ◌*◌, ◌^◌, ◌++◌, ◌∙◌, ap, sym, subst, refl, suc, length, take, drop, get_or, Result, Ok, Err, IfOk, OnOk}
 use Rattle.std.proofs.lemmas.List.{length-take-le}
-use Rattle.std.proofs.lemmas.Result.{on_ok_weaker}
+use Rattle.std.proofs.lemmas.Result.{on_ok_weaker, IfOk-at_ok}
 use Rattle.ex_base.specs.Edits.{inserted}
 use Rattle.ex_base.specs.declared.geometry.Geometry.{Geometry}
 use Rattle.ex_base.specs.declared.names.Area.{Area}
@@ -10,7 +10,7 @@ use Rattle.ex_base.specs.Sizes.{leaf_bytes, object_most}
 use Rattle.trees.specs.Split.{nodes_for}
 use Rattle.trees.specs.declared.rows.Part.{Part}
 use Rattle.trees.specs.Damage.{IsNodeFault, IsSoundWay, IsWalkFault}
-use Rattle.trees.proofs.Blame.{walk_back, walk_node, walk_below}
+use Rattle.trees.proofs.Blame.{walk_back, walk_node, walk_below, walk_undamaged}
 use Rattle.trees.specs.Rows.{IsFilled, row_size, row_bytes, row_shape, FitLeaves}
 use Rattle.trees.proofs.Parts.{narrow, below_fit}
 use Rattle.trees.specs.Made.{Holds}
@@ -28,9 +28,12 @@ use Rattle.trees.proofs.Reading.{no_part}
 use Rattle.ex_base.specs.Area.{NamesLeaf}
 use Rattle.ex_base.proofs.Geometries.{page_le}
 use Rattle.ex_base.proofs.NeedLaws.{growth_few}
-use Rattle.ex_base.proofs.Results.{if_err_handed}
+use Rattle.ex_base.proofs.Results.{if_err_handed, cause_handed, if_ok_from}
 use Rattle.trees.proofs.Ways.{way_kept, way_low, way_one}
 use Rattle.tree_insert.proofs.SoundWays.{place_way}
+use Rattle.ex_base.proofs.Handed.{no_value, not_given, cause_here}
+use Rattle.tree_insert.proofs.WalkFaults.{walk_leaves}
+use Rattle.ex_base.specs.declared.faults.PortFault.TheVariants.{Memory}
 use Rattle.tree_insert.proofs.grow.+grow_row.Goals as goal
 
 if_ok_with : {X E : Type 0} (r : Result X E) (A : Type 0) (P Q : X → Type 0) → ((x : X) → A → P x → Q x) → OnOk r A → IfOk r P → IfOk r Q
@@ -195,3 +198,182 @@ returns-clause-way g t c = λ told.
     (way_kept g.B.Ground NamesLeaf c.args.blocks.now c.row_of.new.blocks (c.args.level - 1) (g.B.Ground.geometry c.args.blocks.now).fan c.in_ok-below.below.items (c.tree_at-index.result.1 - 1) (c.tree_at-index.result.1 - 1) c.in_ok-below.ensures.kept
     (λ later. subst (λ k. IsSoundWay (g.B.Ground.geometry c.row_of.new.blocks) (g.B.Ground.unit c.row_of.new.blocks) (NamesLeaf (g.B.Ground.geometry c.row_of.new.blocks)) (c.args.level - 1) k c.in_ok-below.below.items (c.tree_at-index.result.1 - 1) (c.tree_at-index.result.1 - 1)) (ap (λ (geo : Geometry). geo.fan) (g.B.Ground.leads_geometry c.args.blocks.now c.row_of.new.blocks c.in_ok-below.ensures.kept.leads))
     (subst (λ r. IsSoundWay (g.B.Ground.geometry c.row_of.new.blocks) (g.B.Ground.unit c.row_of.new.blocks) (NamesLeaf (g.B.Ground.geometry c.row_of.new.blocks)) (c.args.level - 1) (g.B.Ground.geometry c.row_of.new.blocks).fan r (c.tree_at-index.result.1 - 1) (c.tree_at-index.result.1 - 1)) c.deref.ensures.value (c.in_ok-grown.ensures.way later))) told))
+
+-- ---- what else is asked and promised
+
+pub returns-in_err-below-clause-grown : goal.returns-in_err-below-clause-grown
+returns-in_err-below-clause-grown g t c = no_value c.from_residual.result _ c.in_err-below.field-0.0 c.from_residual.ensures.1
+
+pub returns-in_err-below-clause-paid : goal.returns-in_err-below-clause-paid
+returns-in_err-below-clause-paid g t c = no_value c.from_residual.result _ c.in_err-below.field-0.0 c.from_residual.ensures.1
+
+pub returns-in_err-below-clause-grew : goal.returns-in_err-below-clause-grew
+returns-in_err-below-clause-grew g t c = no_value c.from_residual.result _ c.in_err-below.field-0.0 c.from_residual.ensures.1
+
+pub returns-in_err-below-clause-extends : goal.returns-in_err-below-clause-extends
+returns-in_err-below-clause-extends g t c = not_given c.from_residual.result _ c.in_err-below.field-0.0 c.from_residual.ensures.1
+
+pub returns-in_err-below-clause-leaves : goal.returns-in_err-below-clause-leaves
+returns-in_err-below-clause-leaves g t c = not_given c.from_residual.result _ c.in_err-below.field-0.0 c.from_residual.ensures.1
+
+pub returns-in_err-below-clause-way : goal.returns-in_err-below-clause-way
+returns-in_err-below-clause-way g t c = not_given c.from_residual.result _ c.in_err-below.field-0.0 c.from_residual.ensures.1
+
+pub returns-in_err-below-clause-leads : goal.returns-in_err-below-clause-leads
+returns-in_err-below-clause-leads g t c = c.row_of.ensures.kept.leads
+
+pub returns-in_err-below-clause-cause : goal.returns-in_err-below-clause-cause
+returns-in_err-below-clause-cause g t c = cause_here (g.B.Ground.faults c.args.blocks.now) (g.B.Ground.faults c.row_of.new.blocks) c.from_residual.result c.in_err-below.field-0.0 c.from_residual.ensures.1 c.in_err-below.ensures.cause
+
+pub returns-in_err-grown-clause-grown : goal.returns-in_err-grown-clause-grown
+returns-in_err-grown-clause-grown g t c = no_value c.from_residual-in_err-grown.result _ c.in_err-grown.field-0.0 c.from_residual-in_err-grown.ensures.1
+
+pub returns-in_err-grown-clause-paid : goal.returns-in_err-grown-clause-paid
+returns-in_err-grown-clause-paid g t c = no_value c.from_residual-in_err-grown.result _ c.in_err-grown.field-0.0 c.from_residual-in_err-grown.ensures.1
+
+pub returns-in_err-grown-clause-grew : goal.returns-in_err-grown-clause-grew
+returns-in_err-grown-clause-grew g t c = no_value c.from_residual-in_err-grown.result _ c.in_err-grown.field-0.0 c.from_residual-in_err-grown.ensures.1
+
+pub returns-in_err-grown-clause-extends : goal.returns-in_err-grown-clause-extends
+returns-in_err-grown-clause-extends g t c = not_given c.from_residual-in_err-grown.result _ c.in_err-grown.field-0.0 c.from_residual-in_err-grown.ensures.1
+
+pub returns-in_err-grown-clause-leaves : goal.returns-in_err-grown-clause-leaves
+returns-in_err-grown-clause-leaves g t c = not_given c.from_residual-in_err-grown.result _ c.in_err-grown.field-0.0 c.from_residual-in_err-grown.ensures.1
+
+pub returns-in_err-grown-clause-way : goal.returns-in_err-grown-clause-way
+returns-in_err-grown-clause-way g t c = not_given c.from_residual-in_err-grown.result _ c.in_err-grown.field-0.0 c.from_residual-in_err-grown.ensures.1
+
+pub returns-in_err-grown-clause-leads : goal.returns-in_err-grown-clause-leads
+returns-in_err-grown-clause-leads g t c = g.B.Ground.leads_trans c.args.blocks.now c.row_of.new.blocks c.grow_row.new.blocks c.in_ok-below.ensures.kept.leads c.in_err-grown.ensures.leads
+
+pub returns-in_err-grown-clause-cause : goal.returns-in_err-grown-clause-cause
+returns-in_err-grown-clause-cause g t c = cause_handed (g.B.Ground.faults c.args.blocks.now) (g.B.Ground.faults c.row_of.new.blocks) (g.B.Ground.faults c.grow_row.new.blocks) c.from_residual-in_err-grown.result c.in_err-grown.field-0.0 c.from_residual-in_err-grown.ensures.1 (g.B.Ground.leads_faults c.args.blocks.now c.row_of.new.blocks c.in_ok-below.ensures.kept.leads) c.in_err-grown.ensures.cause
+
+pub returns-in_err-made-clause-grown : goal.returns-in_err-made-clause-grown
+returns-in_err-made-clause-grown g t c = no_value c.from_residual-in_err-made.result _ c.in_err-made.field-0.0 c.from_residual-in_err-made.ensures.1
+
+pub returns-in_err-made-clause-paid : goal.returns-in_err-made-clause-paid
+returns-in_err-made-clause-paid g t c = no_value c.from_residual-in_err-made.result _ c.in_err-made.field-0.0 c.from_residual-in_err-made.ensures.1
+
+pub returns-in_err-made-clause-grew : goal.returns-in_err-made-clause-grew
+returns-in_err-made-clause-grew g t c = no_value c.from_residual-in_err-made.result _ c.in_err-made.field-0.0 c.from_residual-in_err-made.ensures.1
+
+pub returns-in_err-made-clause-extends : goal.returns-in_err-made-clause-extends
+returns-in_err-made-clause-extends g t c = not_given c.from_residual-in_err-made.result _ c.in_err-made.field-0.0 c.from_residual-in_err-made.ensures.1
+
+pub returns-in_err-made-clause-leaves : goal.returns-in_err-made-clause-leaves
+returns-in_err-made-clause-leaves g t c = not_given c.from_residual-in_err-made.result _ c.in_err-made.field-0.0 c.from_residual-in_err-made.ensures.1
+
+pub returns-in_err-made-clause-way : goal.returns-in_err-made-clause-way
+returns-in_err-made-clause-way g t c = not_given c.from_residual-in_err-made.result _ c.in_err-made.field-0.0 c.from_residual-in_err-made.ensures.1
+
+pub returns-in_err-made-clause-fault : goal.returns-in_err-made-clause-fault
+returns-in_err-made-clause-fault g t c = if_err_handed c.from_residual-in_err-made.result _ c.in_err-made.field-0.0 c.from_residual-in_err-made.ensures.1 (λ told. walk_undamaged (g.B.Ground.geometry c.args.blocks.now) (g.B.Ground.unit c.args.blocks.now) c.args.level (g.B.Ground.geometry c.args.blocks.now).fan c.args.row.now c.in_err-made.field-0.0 c.in_err-made.ensures.no_damage)
+
+pub returns-in_err-spliced-clause-grown : goal.returns-in_err-spliced-clause-grown
+returns-in_err-spliced-clause-grown g t c = no_value c.from_residual-in_err-spliced.result _ Memory c.from_residual-in_err-spliced.ensures.1
+
+pub returns-in_err-spliced-clause-paid : goal.returns-in_err-spliced-clause-paid
+returns-in_err-spliced-clause-paid g t c = no_value c.from_residual-in_err-spliced.result _ Memory c.from_residual-in_err-spliced.ensures.1
+
+pub returns-in_err-spliced-clause-grew : goal.returns-in_err-spliced-clause-grew
+returns-in_err-spliced-clause-grew g t c = no_value c.from_residual-in_err-spliced.result _ Memory c.from_residual-in_err-spliced.ensures.1
+
+pub returns-in_err-spliced-clause-extends : goal.returns-in_err-spliced-clause-extends
+returns-in_err-spliced-clause-extends g t c = not_given c.from_residual-in_err-spliced.result _ Memory c.from_residual-in_err-spliced.ensures.1
+
+pub returns-in_err-spliced-clause-leaves : goal.returns-in_err-spliced-clause-leaves
+returns-in_err-spliced-clause-leaves g t c = not_given c.from_residual-in_err-spliced.result _ Memory c.from_residual-in_err-spliced.ensures.1
+
+pub returns-in_err-spliced-clause-way : goal.returns-in_err-spliced-clause-way
+returns-in_err-spliced-clause-way g t c = not_given c.from_residual-in_err-spliced.result _ Memory c.from_residual-in_err-spliced.ensures.1
+
+pub returns-in_err-spliced-clause-fault : goal.returns-in_err-spliced-clause-fault
+returns-in_err-spliced-clause-fault g t c = if_err_handed c.from_residual-in_err-spliced.result _ Memory c.from_residual-in_err-spliced.ensures.1 (λ told. tt)
+
+pub returns-in_err-spliced-clause-cause : goal.returns-in_err-spliced-clause-cause
+returns-in_err-spliced-clause-cause g t c = cause_here (g.B.Ground.faults c.args.blocks.now) (g.B.Ground.faults c.nodes_over.new.blocks) c.from_residual-in_err-spliced.result Memory c.from_residual-in_err-spliced.ensures.1 tt
+
+pub returns-then-level-eq0-clause-cause : goal.returns-then-level-eq0-clause-cause
+returns-then-level-eq0-clause-cause g t c = c.grow_leaves.ensures.cause
+
+pub returns-then-level-eq0-clause-extends : goal.returns-then-level-eq0-clause-extends
+returns-then-level-eq0-clause-extends g t c = c.grow_leaves.ensures.extends
+
+pub returns-then-level-eq0-clause-grown : goal.returns-then-level-eq0-clause-grown
+returns-then-level-eq0-clause-grown g t c = c.grow_leaves.ensures.grown
+
+pub returns-then-level-eq0-clause-leads : goal.returns-then-level-eq0-clause-leads
+returns-then-level-eq0-clause-leads g t c = c.grow_leaves.ensures.leads
+
+pub returns-then-level-eq0-clause-leaves : goal.returns-then-level-eq0-clause-leaves
+returns-then-level-eq0-clause-leaves g t c = c.grow_leaves.ensures.leaves
+
+pub returns-then-level-eq0-clause-fault : goal.returns-then-level-eq0-clause-fault
+returns-then-level-eq0-clause-fault g t c = walk_leaves (g.B.Ground.geometry c.args.blocks.now) (g.B.Ground.unit c.args.blocks.now) c.grow_leaves.result (g.B.Ground.tells c.args.blocks.now) c.args.level 0 (g.B.Ground.geometry c.args.blocks.now).fan c.args.row.now c.if-level-eq0.true c.grow_leaves.ensures.fault
+
+pub returns-then-level-eq0-clause-grew : goal.returns-then-level-eq0-clause-grew
+returns-then-level-eq0-clause-grew g t c = if_ok_from c.grow_leaves.result _ (λ made is told l same holds. subst (λ (k : ℕ). Holds g.B.Ground c.args.blocks.now k c.args.row.now → Grew g.B.Ground c.args.blocks.now c.grow_leaves.new.blocks k c.args.row.now made.items (inserted (row_bytes (g.B.Ground.unit c.args.blocks.now) k c.args.row.now) c.args.pos c.args.given.now) (row_by c.args.growth (g.B.Ground.geometry c.args.blocks.now).fan (leaf_bytes (g.B.Ground.geometry c.args.blocks.now)) (length c.args.given.now) k (row_shape (g.B.Ground.unit c.args.blocks.now) k c.args.row.now) c.args.pos)) (sym c.if-level-eq0.true ∙ same) (IfOk-at_ok _ is c.grow_leaves.ensures.grew told) holds)
+
+pub returns-clause-fault : goal.returns-clause-fault
+returns-clause-fault g t c = tt
+
+pub returns-clause-cause : goal.returns-clause-cause
+returns-clause-cause g t c = tt
+
+pub overflow_sub-level : goal.overflow_sub-level
+overflow_sub-level g t c = omega (arith, c.if-level-eq0.false)
+
+pub nodes_over-requires-clause-level : goal.nodes_over-requires-clause-level
+nodes_over-requires-clause-level g t c = omega (arith, c.if-level-eq0.false)
+
+pub nodes_over-requires-clause-ready : goal.nodes_over-requires-clause-ready
+nodes_over-requires-clause-ready g t c = g.B.Ground.leads_ready c.row_of.new.blocks c.grow_row.new.blocks c.in_ok-grown.ensures.leads (g.B.Ground.leads_ready c.args.blocks.now c.row_of.new.blocks c.in_ok-below.ensures.kept.leads c.requires.ready)
+
+pub nodes_over-requires-clause-sizes : goal.nodes_over-requires-clause-sizes
+nodes_over-requires-clause-sizes g t c = subst AreSome (sym c.deref-2.ensures.value) c.in_ok-grown.ensures.grown.sizes
+
+pub nodes_over-requires-clause-some : goal.nodes_over-requires-clause-some
+nodes_over-requires-clause-some g t c = omega (arith, ap length c.deref-2.ensures.value, c.in_ok-grown.ensures.grown.some)
+
+pub row_of-requires : goal.row_of-requires
+row_of-requires g t c = c.requires.ready
+
+pub spliced-requires-clause-order : goal.spliced-requires-clause-order
+spliced-requires-clause-order g t c = omega arith
+
+pub spliced-requires-clause-inside : goal.spliced-requires-clause-inside
+spliced-requires-clause-inside g t c = omega (arith, c.tree_at-index.ensures.inside)
+
+pub tree_at-index-requires-clause-some : goal.tree_at-index-requires-clause-some
+tree_at-index-requires-clause-some g t c = c.requires.some
+
+pub grow_leaves-requires-clause-buffer : goal.grow_leaves-requires-clause-buffer
+grow_leaves-requires-clause-buffer g t c = c.requires.buffer
+
+pub grow_leaves-requires-clause-few : goal.grow_leaves-requires-clause-few
+grow_leaves-requires-clause-few g t c = c.requires.few
+
+pub grow_leaves-requires-clause-free : goal.grow_leaves-requires-clause-free
+grow_leaves-requires-clause-free g t c = c.requires.free
+
+pub grow_leaves-requires-clause-given : goal.grow_leaves-requires-clause-given
+grow_leaves-requires-clause-given g t c = c.requires.given
+
+pub grow_leaves-requires-clause-limit : goal.grow_leaves-requires-clause-limit
+grow_leaves-requires-clause-limit g t c = c.requires.limit
+
+pub grow_leaves-requires-clause-ready : goal.grow_leaves-requires-clause-ready
+grow_leaves-requires-clause-ready g t c = c.requires.ready
+
+pub grow_leaves-requires-clause-sizes : goal.grow_leaves-requires-clause-sizes
+grow_leaves-requires-clause-sizes g t c = c.requires.sizes
+
+pub grow_leaves-requires-clause-some : goal.grow_leaves-requires-clause-some
+grow_leaves-requires-clause-some g t c = c.requires.some
+
+pub grow_leaves-requires-clause-spot : goal.grow_leaves-requires-clause-spot
+grow_leaves-requires-clause-spot g t c = c.requires.spot
+
+pub grow_leaves-requires-clause-leaves : goal.grow_leaves-requires-clause-leaves
+grow_leaves-requires-clause-leaves g t c = subst (λ k. FitLeaves (g.B.Ground.geometry c.args.blocks.now) k c.args.row.now) c.if-level-eq0.true c.requires.leaves

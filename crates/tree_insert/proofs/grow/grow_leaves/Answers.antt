@@ -18,6 +18,8 @@ use Rattle.tree_insert.proofs.LeafStep.{leaf_step, left_there, right_there, step
 use Rattle.ex_base.specs.Area.{NamesLeaf}
 use Rattle.std.proofs.lemmas.Bool.{cases_lt}
 use Rattle.tree_insert.proofs.SoundWays.{leaves_way_at}
+use Rattle.ex_base.proofs.Handed.{no_value, not_given, cause_here}
+use Rattle.ex_base.specs.declared.faults.PortFault.TheVariants.{Memory}
 use Rattle.tree_insert.proofs.grow.grow_leaves.Goals as goal
 
 pub plan_for-plan-requires-clause-fits : goal.plan_for-plan-requires-clause-fits
@@ -135,3 +137,113 @@ returns-clause-way g c = λ told.
       | inl before ↦ inl before
       | inr behind ↦ inr (omega arith)
     ]))
+
+-- ---- what else is asked and promised
+
+pub returns-in_err-lengths-clause-count : goal.returns-in_err-lengths-clause-count
+returns-in_err-lengths-clause-count g c = no_value c.from_residual.result _ Memory c.from_residual.ensures.1
+
+pub returns-in_err-lengths-clause-grew : goal.returns-in_err-lengths-clause-grew
+returns-in_err-lengths-clause-grew g c = no_value c.from_residual.result _ Memory c.from_residual.ensures.1
+
+pub returns-in_err-lengths-clause-grown : goal.returns-in_err-lengths-clause-grown
+returns-in_err-lengths-clause-grown g c = no_value c.from_residual.result _ Memory c.from_residual.ensures.1
+
+pub returns-in_err-lengths-clause-extends : goal.returns-in_err-lengths-clause-extends
+returns-in_err-lengths-clause-extends g c = not_given c.from_residual.result _ Memory c.from_residual.ensures.1
+
+pub returns-in_err-lengths-clause-leaves : goal.returns-in_err-lengths-clause-leaves
+returns-in_err-lengths-clause-leaves g c = not_given c.from_residual.result _ Memory c.from_residual.ensures.1
+
+pub returns-in_err-lengths-clause-pages : goal.returns-in_err-lengths-clause-pages
+returns-in_err-lengths-clause-pages g c = not_given c.from_residual.result _ Memory c.from_residual.ensures.1
+
+pub returns-in_err-lengths-clause-way : goal.returns-in_err-lengths-clause-way
+returns-in_err-lengths-clause-way g c = not_given c.from_residual.result _ Memory c.from_residual.ensures.1
+
+pub returns-in_err-lengths-clause-fault : goal.returns-in_err-lengths-clause-fault
+returns-in_err-lengths-clause-fault g c = if_err_handed c.from_residual.result _ Memory c.from_residual.ensures.1 (λ told. tt)
+
+pub returns-in_err-lengths-clause-leads : goal.returns-in_err-lengths-clause-leads
+returns-in_err-lengths-clause-leads g c = g.B.Ground.leads_refl c.args.blocks.now
+
+pub returns-in_err-lengths-clause-cause : goal.returns-in_err-lengths-clause-cause
+returns-in_err-lengths-clause-cause g c = cause_here (g.B.Ground.faults c.args.blocks.now) (g.B.Ground.faults c.args.blocks.now) c.from_residual.result Memory c.from_residual.ensures.1 tt
+
+pub returns-in_err-made-clause-count : goal.returns-in_err-made-clause-count
+returns-in_err-made-clause-count g c = no_value c.from_residual-in_err-made.result _ c.in_err-made.field-0.0 c.from_residual-in_err-made.ensures.1
+
+pub returns-in_err-made-clause-grew : goal.returns-in_err-made-clause-grew
+returns-in_err-made-clause-grew g c = no_value c.from_residual-in_err-made.result _ c.in_err-made.field-0.0 c.from_residual-in_err-made.ensures.1
+
+pub returns-in_err-made-clause-grown : goal.returns-in_err-made-clause-grown
+returns-in_err-made-clause-grown g c = no_value c.from_residual-in_err-made.result _ c.in_err-made.field-0.0 c.from_residual-in_err-made.ensures.1
+
+pub returns-in_err-made-clause-extends : goal.returns-in_err-made-clause-extends
+returns-in_err-made-clause-extends g c = not_given c.from_residual-in_err-made.result _ c.in_err-made.field-0.0 c.from_residual-in_err-made.ensures.1
+
+pub returns-in_err-made-clause-leaves : goal.returns-in_err-made-clause-leaves
+returns-in_err-made-clause-leaves g c = not_given c.from_residual-in_err-made.result _ c.in_err-made.field-0.0 c.from_residual-in_err-made.ensures.1
+
+pub returns-in_err-made-clause-pages : goal.returns-in_err-made-clause-pages
+returns-in_err-made-clause-pages g c = not_given c.from_residual-in_err-made.result _ c.in_err-made.field-0.0 c.from_residual-in_err-made.ensures.1
+
+pub returns-in_err-made-clause-way : goal.returns-in_err-made-clause-way
+returns-in_err-made-clause-way g c = not_given c.from_residual-in_err-made.result _ c.in_err-made.field-0.0 c.from_residual-in_err-made.ensures.1
+
+pub returns-in_err-made-clause-leads : goal.returns-in_err-made-clause-leads
+returns-in_err-made-clause-leads g c = c.in_err-made.ensures.leads
+
+pub returns-in_err-made-clause-cause : goal.returns-in_err-made-clause-cause
+returns-in_err-made-clause-cause g c = cause_here (g.B.Ground.faults c.args.blocks.now) (g.B.Ground.faults c.write_leaves.new.blocks) c.from_residual-in_err-made.result c.in_err-made.field-0.0 c.from_residual-in_err-made.ensures.1 c.in_err-made.ensures.cause
+
+pub returns-in_err-spliced-clause-count : goal.returns-in_err-spliced-clause-count
+returns-in_err-spliced-clause-count g c = no_value c.from_residual-in_err-spliced.result _ Memory c.from_residual-in_err-spliced.ensures.1
+
+pub returns-in_err-spliced-clause-grew : goal.returns-in_err-spliced-clause-grew
+returns-in_err-spliced-clause-grew g c = no_value c.from_residual-in_err-spliced.result _ Memory c.from_residual-in_err-spliced.ensures.1
+
+pub returns-in_err-spliced-clause-grown : goal.returns-in_err-spliced-clause-grown
+returns-in_err-spliced-clause-grown g c = no_value c.from_residual-in_err-spliced.result _ Memory c.from_residual-in_err-spliced.ensures.1
+
+pub returns-in_err-spliced-clause-extends : goal.returns-in_err-spliced-clause-extends
+returns-in_err-spliced-clause-extends g c = not_given c.from_residual-in_err-spliced.result _ Memory c.from_residual-in_err-spliced.ensures.1
+
+pub returns-in_err-spliced-clause-leaves : goal.returns-in_err-spliced-clause-leaves
+returns-in_err-spliced-clause-leaves g c = not_given c.from_residual-in_err-spliced.result _ Memory c.from_residual-in_err-spliced.ensures.1
+
+pub returns-in_err-spliced-clause-pages : goal.returns-in_err-spliced-clause-pages
+returns-in_err-spliced-clause-pages g c = not_given c.from_residual-in_err-spliced.result _ Memory c.from_residual-in_err-spliced.ensures.1
+
+pub returns-in_err-spliced-clause-way : goal.returns-in_err-spliced-clause-way
+returns-in_err-spliced-clause-way g c = not_given c.from_residual-in_err-spliced.result _ Memory c.from_residual-in_err-spliced.ensures.1
+
+pub returns-in_err-spliced-clause-fault : goal.returns-in_err-spliced-clause-fault
+returns-in_err-spliced-clause-fault g c = if_err_handed c.from_residual-in_err-spliced.result _ Memory c.from_residual-in_err-spliced.ensures.1 (λ told. tt)
+
+pub returns-in_err-spliced-clause-leads : goal.returns-in_err-spliced-clause-leads
+returns-in_err-spliced-clause-leads g c = c.in_ok-made.ensures.leads
+
+pub returns-in_err-spliced-clause-cause : goal.returns-in_err-spliced-clause-cause
+returns-in_err-spliced-clause-cause g c = cause_here (g.B.Ground.faults c.args.blocks.now) (g.B.Ground.faults c.write_leaves.new.blocks) c.from_residual-in_err-spliced.result Memory c.from_residual-in_err-spliced.ensures.1 tt
+
+pub returns-clause-cause : goal.returns-clause-cause
+returns-clause-cause g c = tt
+
+pub returns-clause-fault : goal.returns-clause-fault
+returns-clause-fault g c = tt
+
+pub returns-clause-extends : goal.returns-clause-extends
+returns-clause-extends g c = c.in_ok-made.ensures.extends
+
+pub returns-clause-leads : goal.returns-clause-leads
+returns-clause-leads g c = c.in_ok-made.ensures.leads
+
+pub write_leaves-requires-clause-ready : goal.write_leaves-requires-clause-ready
+write_leaves-requires-clause-ready g c = c.requires.ready
+
+pub write_leaves-requires-clause-buffer : goal.write_leaves-requires-clause-buffer
+write_leaves-requires-clause-buffer g c = c.requires.buffer
+
+pub tree_at-index-requires-clause-some : goal.tree_at-index-requires-clause-some
+tree_at-index-requires-clause-some g c = c.requires.some

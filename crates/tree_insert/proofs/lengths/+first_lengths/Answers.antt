@@ -3,16 +3,19 @@ use Rattle.ex_base.specs.declared.geometry.Geometry.{Geometry}
 use Rattle.ex_base.specs.Sizes.{leaf_bytes}
 use Rattle.ex_base.proofs.Each.{each_at}
 use Rattle.ex_base.proofs.Geometries.{leaf_most}
-use Rattle.ex_base.proofs.Results.{if_err_handed}
+use Rattle.ex_base.proofs.Results.{if_err_handed, cause_handed}
 use Rattle.trees.specs.declared.rows.Part.{Part}
 use Rattle.trees.specs.Damage.{IsWalkFault}
 use Rattle.trees.specs.Rows.{FitLeaves, IsRowOn, IsFilled}
 use Rattle.trees.proofs.Parts.{below_fit}
-use Rattle.trees.proofs.Blame.{walk_back, walk_below}
+use Rattle.trees.proofs.Blame.{walk_back, walk_below, walk_node}
 use Rattle.trees.specs.Built.{AreSome}
 use Rattle.trees.proofs.RowReads.{walk_tree}
 use Rattle.tree_insert.proofs.Counting.{leaves_in, leaf_front, front_step, front_node}
 use Rattle.trees.proofs.Reading.{no_part}
+use Rattle.ex_base.proofs.Handed.{not_given, cause_here}
+use Rattle.ex_base.specs.declared.faults.PortFault.TheVariants.{Memory}
+use Rattle.ex_base.proofs.Keeping.{keeps_on, keeps_refl}
 use Rattle.tree_insert.proofs.lengths.+first_lengths.Goals as goal
 
 pub overflow_cast-tree : goal.overflow_cast-tree
@@ -49,3 +52,89 @@ pub returns-clause-lengths : goal.returns-clause-lengths
 returns-clause-lengths g t c = λ told l same trees.
     front_node (g.B.Ground.geometry c.args.blocks.now) (g.B.Ground.unit c.args.blocks.now) c.args.most c.args.level l c.args.tree c.deref-child-items.result.now c.args.lengths.now.items c.loop-child.lengths.items same c.if-level-eq0.false (subst (IsRowOn (g.B.Ground.geometry c.args.blocks.now) ((g.B.Ground.unit c.args.blocks.now) c.args.tree.page.0) c.args.level c.args.tree.size) (sym c.deref-child-items.ensures.value) (c.in_ok-below.ensures.found told))
     (λ m e below. c.loop-child.invariant.lengths told m e below ∙ ap (λ r. take c.args.most (c.args.lengths.now.items ++ leaves_in (g.B.Ground.unit c.args.blocks.now) m r)) (take_all c.loop-child.child-index c.deref-child-items.result.now (omega arith))) trees
+
+-- ---- what else is asked and promised
+
+pub returns-in_err-put-clause-most : goal.returns-in_err-put-clause-most
+returns-in_err-put-clause-most g t c = not_given c.from_residual.result _ Memory c.from_residual.ensures.1
+
+pub returns-in_err-put-clause-lengths : goal.returns-in_err-put-clause-lengths
+returns-in_err-put-clause-lengths g t c = not_given c.from_residual.result _ Memory c.from_residual.ensures.1
+
+pub returns-in_err-put-clause-fault : goal.returns-in_err-put-clause-fault
+returns-in_err-put-clause-fault g t c = if_err_handed c.from_residual.result _ Memory c.from_residual.ensures.1 (λ told. tt)
+
+pub returns-in_err-put-clause-kept : goal.returns-in_err-put-clause-kept
+returns-in_err-put-clause-kept g t c = keeps_refl g.B.Ground c.args.blocks.now
+
+pub returns-in_err-put-clause-cause : goal.returns-in_err-put-clause-cause
+returns-in_err-put-clause-cause g t c = cause_here (g.B.Ground.faults c.args.blocks.now) (g.B.Ground.faults c.args.blocks.now) c.from_residual.result Memory c.from_residual.ensures.1 tt
+
+pub returns-in_err-below-clause-most : goal.returns-in_err-below-clause-most
+returns-in_err-below-clause-most g t c = not_given c.from_residual-in_err-below.result _ c.in_err-below.field-0.0 c.from_residual-in_err-below.ensures.1
+
+pub returns-in_err-below-clause-lengths : goal.returns-in_err-below-clause-lengths
+returns-in_err-below-clause-lengths g t c = not_given c.from_residual-in_err-below.result _ c.in_err-below.field-0.0 c.from_residual-in_err-below.ensures.1
+
+pub returns-in_err-below-clause-fault : goal.returns-in_err-below-clause-fault
+returns-in_err-below-clause-fault g t c = if_err_handed c.from_residual-in_err-below.result _ c.in_err-below.field-0.0 c.from_residual-in_err-below.ensures.1 (λ told. walk_node (g.B.Ground.geometry c.args.blocks.now) (g.B.Ground.unit c.args.blocks.now) c.args.level c.args.least 0 (c.args.tree ∷ []) c.in_err-below.field-0.0 c.if-level-eq0.false (omega arith) (c.in_err-below.ensures.fault told))
+
+pub returns-in_err-below-clause-kept : goal.returns-in_err-below-clause-kept
+returns-in_err-below-clause-kept g t c = c.row_of.ensures.kept
+
+pub returns-in_err-below-clause-cause : goal.returns-in_err-below-clause-cause
+returns-in_err-below-clause-cause g t c = cause_here (g.B.Ground.faults c.args.blocks.now) (g.B.Ground.faults c.row_of.new.blocks) c.from_residual-in_err-below.result c.in_err-below.field-0.0 c.from_residual-in_err-below.ensures.1 c.in_err-below.ensures.cause
+
+pub returns-in_err-first_lengths-clause-most : goal.returns-in_err-first_lengths-clause-most
+returns-in_err-first_lengths-clause-most g t c = not_given c.from_residual-in_err-first_lengths.result _ c.in_err-first_lengths.field-0.0 c.from_residual-in_err-first_lengths.ensures.1
+
+pub returns-in_err-first_lengths-clause-lengths : goal.returns-in_err-first_lengths-clause-lengths
+returns-in_err-first_lengths-clause-lengths g t c = not_given c.from_residual-in_err-first_lengths.result _ c.in_err-first_lengths.field-0.0 c.from_residual-in_err-first_lengths.ensures.1
+
+pub returns-in_err-first_lengths-clause-kept : goal.returns-in_err-first_lengths-clause-kept
+returns-in_err-first_lengths-clause-kept g t c = keeps_on g.B.Ground c.args.blocks.now c.loop-child.blocks c.first_lengths.new.blocks c.loop-child.invariant.kept c.first_lengths.ensures.kept
+
+pub returns-in_err-first_lengths-clause-cause : goal.returns-in_err-first_lengths-clause-cause
+returns-in_err-first_lengths-clause-cause g t c = cause_handed (g.B.Ground.faults c.args.blocks.now) (g.B.Ground.faults c.loop-child.blocks) (g.B.Ground.faults c.first_lengths.new.blocks) c.from_residual-in_err-first_lengths.result c.in_err-first_lengths.field-0.0 c.from_residual-in_err-first_lengths.ensures.1 (g.B.Ground.leads_faults c.args.blocks.now c.loop-child.blocks c.loop-child.invariant.kept.leads) c.in_err-first_lengths.ensures.cause
+
+pub returns-then-len-most-clause-cause : goal.returns-then-len-most-clause-cause
+returns-then-len-most-clause-cause g t c = tt
+
+pub returns-then-len-most-clause-fault : goal.returns-then-len-most-clause-fault
+returns-then-len-most-clause-fault g t c = tt
+
+pub returns-then-len-most-clause-kept : goal.returns-then-len-most-clause-kept
+returns-then-len-most-clause-kept g t c = keeps_refl g.B.Ground c.args.blocks.now
+
+pub returns-then-level-eq0-clause-cause : goal.returns-then-level-eq0-clause-cause
+returns-then-level-eq0-clause-cause g t c = tt
+
+pub returns-then-level-eq0-clause-fault : goal.returns-then-level-eq0-clause-fault
+returns-then-level-eq0-clause-fault g t c = tt
+
+pub returns-then-level-eq0-clause-kept : goal.returns-then-level-eq0-clause-kept
+returns-then-level-eq0-clause-kept g t c = keeps_refl g.B.Ground c.args.blocks.now
+
+pub returns-then-len-most-clause-most : goal.returns-then-len-most-clause-most
+returns-then-len-most-clause-most g t c = c.requires.most
+
+pub returns-clause-cause : goal.returns-clause-cause
+returns-clause-cause g t c = tt
+
+pub returns-clause-fault : goal.returns-clause-fault
+returns-clause-fault g t c = tt
+
+pub returns-clause-kept : goal.returns-clause-kept
+returns-clause-kept g t c = c.loop-child.invariant.kept
+
+pub overflow_sub-level : goal.overflow_sub-level
+overflow_sub-level g t c = omega (arith, c.if-level-eq0.false)
+
+pub loop-child-smaller : goal.loop-child-smaller
+loop-child-smaller g t c = omega (arith, c.loop-child-test.true)
+
+pub row_of-requires : goal.row_of-requires
+row_of-requires g t c = c.requires.ready
+
+pub geometry-fan-requires : goal.geometry-fan-requires
+geometry-fan-requires g t c = record { ready = g.B.Ground.leads_ready c.args.blocks.now c.row_of.new.blocks c.in_ok-below.ensures.kept.leads c.requires.ready }

@@ -11,6 +11,8 @@ use Rattle.trees.proofs.Sound.{sound_root}
 use Rattle.trees.specs.Shape.{joined, leaves_of}
 use Rattle.trees.specs.Trees.{root_shape, shape_on}
 use Rattle.tree_insert.proofs.Counting.{root_trees, root_leaves, root_count, front_filled}
+use Rattle.ex_base.proofs.Handed.{no_value, not_given, cause_here}
+use Rattle.ex_base.proofs.Keeping.{keeps_on, keeps_refl, cause_on}
 use Rattle.tree_insert.proofs.lengths.leaf_lengths.Goals as goal
 
 pub returns-in_err-first_lengths-clause-sound : goal.returns-in_err-first_lengths-clause-sound
@@ -48,3 +50,44 @@ returns-clause-way g c =
     root_way (g.B.Ground.geometry c.args.blocks.now) (g.B.Ground.unit c.args.blocks.now) AnyPage c.args.root.now c.in-Some.page byte byte c.in-Some.is
     (way_kept g.B.Ground (λ geo. AnyPage) c.args.blocks.now c.first_lengths.new.blocks c.args.root.now.height 2 (record { size = c.args.root.now.size; page = c.in-Some.page } ∷ []) byte byte c.in_ok-first_lengths.ensures.kept
     (λ later. way later (g.B.Ground.geometry c.first_lengths.new.blocks).two (λ p x there. let none : get nat_eq c.new-known.result p ≡ None = search rules in let clash : Some x ≡ None = sym there ∙ none in absurd cc) byte) told)) c.count_leaves.ensures.way
+
+-- ---- what else is asked and promised
+
+pub returns-in_err-first_lengths-clause-count : goal.returns-in_err-first_lengths-clause-count
+returns-in_err-first_lengths-clause-count g c = no_value c.from_residual.result _ c.in_err-first_lengths.field-0.0 c.from_residual.ensures.1
+
+pub returns-in_err-first_lengths-clause-lengths : goal.returns-in_err-first_lengths-clause-lengths
+returns-in_err-first_lengths-clause-lengths g c = not_given c.from_residual.result _ c.in_err-first_lengths.field-0.0 c.from_residual.ensures.1
+
+pub returns-in_err-first_lengths-clause-way : goal.returns-in_err-first_lengths-clause-way
+returns-in_err-first_lengths-clause-way g c = not_given c.from_residual.result _ c.in_err-first_lengths.field-0.0 c.from_residual.ensures.1
+
+pub returns-in_err-first_lengths-clause-kept : goal.returns-in_err-first_lengths-clause-kept
+returns-in_err-first_lengths-clause-kept g c = c.first_lengths.ensures.kept
+
+pub returns-in_err-first_lengths-clause-cause : goal.returns-in_err-first_lengths-clause-cause
+returns-in_err-first_lengths-clause-cause g c = cause_here (g.B.Ground.faults c.args.blocks.now) (g.B.Ground.faults c.first_lengths.new.blocks) c.from_residual.result c.in_err-first_lengths.field-0.0 c.from_residual.ensures.1 c.in_err-first_lengths.ensures.cause
+
+pub returns-in_default-clause-cause : goal.returns-in_default-clause-cause
+returns-in_default-clause-cause g c = tt
+
+pub returns-in_default-clause-fault : goal.returns-in_default-clause-fault
+returns-in_default-clause-fault g c = tt
+
+pub returns-in_default-clause-sound : goal.returns-in_default-clause-sound
+returns-in_default-clause-sound g c = tt
+
+pub returns-in_default-clause-kept : goal.returns-in_default-clause-kept
+returns-in_default-clause-kept g c = keeps_refl g.B.Ground c.args.blocks.now
+
+pub returns-clause-kept : goal.returns-clause-kept
+returns-clause-kept g c = keeps_on g.B.Ground c.args.blocks.now c.first_lengths.new.blocks c.count_leaves.new.blocks c.first_lengths.ensures.kept c.count_leaves.ensures.kept
+
+pub returns-clause-cause : goal.returns-clause-cause
+returns-clause-cause g c = cause_on (g.B.Ground.faults c.args.blocks.now) (g.B.Ground.faults c.first_lengths.new.blocks) (g.B.Ground.faults c.count_leaves.new.blocks) c.count_leaves.result (g.B.Ground.leads_faults c.args.blocks.now c.first_lengths.new.blocks c.first_lengths.ensures.kept.leads) c.count_leaves.ensures.cause
+
+pub first_lengths-requires-clause-ready : goal.first_lengths-requires-clause-ready
+first_lengths-requires-clause-ready g c = c.requires.ready
+
+pub count_leaves-requires-clause-ready : goal.count_leaves-requires-clause-ready
+count_leaves-requires-clause-ready g c = g.B.Ground.leads_ready c.args.blocks.now c.first_lengths.new.blocks c.first_lengths.ensures.kept.leads c.requires.ready

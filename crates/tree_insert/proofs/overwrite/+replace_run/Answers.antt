@@ -28,7 +28,10 @@ use Rattle.tree_insert.proofs.SoundWays.{run_way, touched_end, touched_way}
 use Rattle.ex_base.proofs.Keeping.{cause_on}
 use Rattle.ex_base.proofs.Each.{each_as}
 use Rattle.ex_base.proofs.Geometries.{page_le}
-use Rattle.ex_base.proofs.Results.{from_ok, if_err_handed, if_ok_from, on_ok_from}
+use Rattle.ex_base.proofs.Results.{from_ok, if_err_handed, if_ok_from, on_ok_from, cause_handed}
+use Rattle.ex_base.proofs.Handed.{no_value, not_given, cause_here}
+use Rattle.tree_insert.proofs.WalkFaults.{undamaged, walk_leaves}
+use Rattle.ex_base.specs.declared.faults.PortFault.TheVariants.{Memory}
 use Rattle.tree_insert.proofs.overwrite.+replace_run.Goals as goal
 
 pub returns-then-level-eq0-clause-spent : goal.returns-then-level-eq0-clause-spent
@@ -169,3 +172,188 @@ returns-clause-ends g t c = on_ok_from c.nodes_by.result _ (λ made is told end 
     (λ b here one. way_kept g.B.Ground NamesLeaf c.args.blocks.now c.row_below.new.blocks (c.args.level - 1) (g.B.Ground.geometry c.args.blocks.now).fan (take (c.span_of-span.result.end - c.span_of-span.result.first) (drop c.span_of-span.result.first c.in_ok-below.below.row.items)) (b - 1) b c.in_ok-below.ensures.kept
     (λ later. subst (λ r. IsSoundEnd (g.B.Ground.geometry c.row_below.new.blocks) (g.B.Ground.unit c.row_below.new.blocks) (c.args.level - 1) (g.B.Ground.geometry c.args.blocks.now).fan r b) (c.piece-touched.ensures ∙ ap (λ r. take (c.span_of-span.result.end - c.span_of-span.result.first) (drop c.span_of-span.result.first r)) c.deref-2.ensures.value)
     (subst (λ (x : Geometry). IsSoundEnd (g.B.Ground.geometry c.row_below.new.blocks) (g.B.Ground.unit c.row_below.new.blocks) (c.args.level - 1) x.fan c.piece-touched.result.now b) c.geometry-geometry.ensures (c.in_ok-made.ensures.ends later b here)) one) told) some))
+
+-- ---- what else is asked and promised
+
+pub returns-in_err-below-clause-sum : goal.returns-in_err-below-clause-sum
+returns-in_err-below-clause-sum g t c = no_value c.from_residual.result _ c.in_err-below.field-0.0 c.from_residual.ensures.1
+
+pub returns-in_err-below-clause-sizes : goal.returns-in_err-below-clause-sizes
+returns-in_err-below-clause-sizes g t c = no_value c.from_residual.result _ c.in_err-below.field-0.0 c.from_residual.ensures.1
+
+pub returns-in_err-below-clause-count : goal.returns-in_err-below-clause-count
+returns-in_err-below-clause-count g t c = no_value c.from_residual.result _ c.in_err-below.field-0.0 c.from_residual.ensures.1
+
+pub returns-in_err-below-clause-grew : goal.returns-in_err-below-clause-grew
+returns-in_err-below-clause-grew g t c = no_value c.from_residual.result _ c.in_err-below.field-0.0 c.from_residual.ensures.1
+
+pub returns-in_err-below-clause-extends : goal.returns-in_err-below-clause-extends
+returns-in_err-below-clause-extends g t c = not_given c.from_residual.result _ c.in_err-below.field-0.0 c.from_residual.ensures.1
+
+pub returns-in_err-below-clause-leaves : goal.returns-in_err-below-clause-leaves
+returns-in_err-below-clause-leaves g t c = not_given c.from_residual.result _ c.in_err-below.field-0.0 c.from_residual.ensures.1
+
+pub returns-in_err-below-clause-spent : goal.returns-in_err-below-clause-spent
+returns-in_err-below-clause-spent g t c = not_given c.from_residual.result _ c.in_err-below.field-0.0 c.from_residual.ensures.1
+
+pub returns-in_err-below-clause-ends : goal.returns-in_err-below-clause-ends
+returns-in_err-below-clause-ends g t c = not_given c.from_residual.result _ c.in_err-below.field-0.0 c.from_residual.ensures.1
+
+pub returns-in_err-below-clause-way : goal.returns-in_err-below-clause-way
+returns-in_err-below-clause-way g t c = not_given c.from_residual.result _ c.in_err-below.field-0.0 c.from_residual.ensures.1
+
+pub returns-in_err-below-clause-fault : goal.returns-in_err-below-clause-fault
+returns-in_err-below-clause-fault g t c = if_err_handed c.from_residual.result _ c.in_err-below.field-0.0 c.from_residual.ensures.1 c.in_err-below.ensures.fault
+
+pub returns-in_err-below-clause-leads : goal.returns-in_err-below-clause-leads
+returns-in_err-below-clause-leads g t c = c.row_below.ensures.kept.leads
+
+pub returns-in_err-below-clause-cause : goal.returns-in_err-below-clause-cause
+returns-in_err-below-clause-cause g t c = cause_here (g.B.Ground.faults c.args.blocks.now) (g.B.Ground.faults c.row_below.new.blocks) c.from_residual.result c.in_err-below.field-0.0 c.from_residual.ensures.1 c.in_err-below.ensures.cause
+
+pub returns-in_err-made-clause-sum : goal.returns-in_err-made-clause-sum
+returns-in_err-made-clause-sum g t c = no_value c.from_residual-in_err-made.result _ c.in_err-made.field-0.0 c.from_residual-in_err-made.ensures.1
+
+pub returns-in_err-made-clause-sizes : goal.returns-in_err-made-clause-sizes
+returns-in_err-made-clause-sizes g t c = no_value c.from_residual-in_err-made.result _ c.in_err-made.field-0.0 c.from_residual-in_err-made.ensures.1
+
+pub returns-in_err-made-clause-count : goal.returns-in_err-made-clause-count
+returns-in_err-made-clause-count g t c = no_value c.from_residual-in_err-made.result _ c.in_err-made.field-0.0 c.from_residual-in_err-made.ensures.1
+
+pub returns-in_err-made-clause-grew : goal.returns-in_err-made-clause-grew
+returns-in_err-made-clause-grew g t c = no_value c.from_residual-in_err-made.result _ c.in_err-made.field-0.0 c.from_residual-in_err-made.ensures.1
+
+pub returns-in_err-made-clause-extends : goal.returns-in_err-made-clause-extends
+returns-in_err-made-clause-extends g t c = not_given c.from_residual-in_err-made.result _ c.in_err-made.field-0.0 c.from_residual-in_err-made.ensures.1
+
+pub returns-in_err-made-clause-leaves : goal.returns-in_err-made-clause-leaves
+returns-in_err-made-clause-leaves g t c = not_given c.from_residual-in_err-made.result _ c.in_err-made.field-0.0 c.from_residual-in_err-made.ensures.1
+
+pub returns-in_err-made-clause-spent : goal.returns-in_err-made-clause-spent
+returns-in_err-made-clause-spent g t c = not_given c.from_residual-in_err-made.result _ c.in_err-made.field-0.0 c.from_residual-in_err-made.ensures.1
+
+pub returns-in_err-made-clause-ends : goal.returns-in_err-made-clause-ends
+returns-in_err-made-clause-ends g t c = not_given c.from_residual-in_err-made.result _ c.in_err-made.field-0.0 c.from_residual-in_err-made.ensures.1
+
+pub returns-in_err-made-clause-way : goal.returns-in_err-made-clause-way
+returns-in_err-made-clause-way g t c = not_given c.from_residual-in_err-made.result _ c.in_err-made.field-0.0 c.from_residual-in_err-made.ensures.1
+
+pub returns-in_err-made-clause-leads : goal.returns-in_err-made-clause-leads
+returns-in_err-made-clause-leads g t c = g.B.Ground.leads_trans c.args.blocks.now c.row_below.new.blocks c.replace_run.new.blocks c.in_ok-below.ensures.kept.leads c.in_err-made.ensures.leads
+
+pub returns-in_err-made-clause-cause : goal.returns-in_err-made-clause-cause
+returns-in_err-made-clause-cause g t c = cause_handed (g.B.Ground.faults c.args.blocks.now) (g.B.Ground.faults c.row_below.new.blocks) (g.B.Ground.faults c.replace_run.new.blocks) c.from_residual-in_err-made.result c.in_err-made.field-0.0 c.from_residual-in_err-made.ensures.1 (g.B.Ground.leads_faults c.args.blocks.now c.row_below.new.blocks c.in_ok-below.ensures.kept.leads) c.in_err-made.ensures.cause
+
+pub returns-in_err-row-clause-sum : goal.returns-in_err-row-clause-sum
+returns-in_err-row-clause-sum g t c = no_value c.from_residual-in_err-row.result _ Memory c.from_residual-in_err-row.ensures.1
+
+pub returns-in_err-row-clause-sizes : goal.returns-in_err-row-clause-sizes
+returns-in_err-row-clause-sizes g t c = no_value c.from_residual-in_err-row.result _ Memory c.from_residual-in_err-row.ensures.1
+
+pub returns-in_err-row-clause-count : goal.returns-in_err-row-clause-count
+returns-in_err-row-clause-count g t c = no_value c.from_residual-in_err-row.result _ Memory c.from_residual-in_err-row.ensures.1
+
+pub returns-in_err-row-clause-grew : goal.returns-in_err-row-clause-grew
+returns-in_err-row-clause-grew g t c = no_value c.from_residual-in_err-row.result _ Memory c.from_residual-in_err-row.ensures.1
+
+pub returns-in_err-row-clause-extends : goal.returns-in_err-row-clause-extends
+returns-in_err-row-clause-extends g t c = not_given c.from_residual-in_err-row.result _ Memory c.from_residual-in_err-row.ensures.1
+
+pub returns-in_err-row-clause-leaves : goal.returns-in_err-row-clause-leaves
+returns-in_err-row-clause-leaves g t c = not_given c.from_residual-in_err-row.result _ Memory c.from_residual-in_err-row.ensures.1
+
+pub returns-in_err-row-clause-spent : goal.returns-in_err-row-clause-spent
+returns-in_err-row-clause-spent g t c = not_given c.from_residual-in_err-row.result _ Memory c.from_residual-in_err-row.ensures.1
+
+pub returns-in_err-row-clause-ends : goal.returns-in_err-row-clause-ends
+returns-in_err-row-clause-ends g t c = not_given c.from_residual-in_err-row.result _ Memory c.from_residual-in_err-row.ensures.1
+
+pub returns-in_err-row-clause-way : goal.returns-in_err-row-clause-way
+returns-in_err-row-clause-way g t c = not_given c.from_residual-in_err-row.result _ Memory c.from_residual-in_err-row.ensures.1
+
+pub returns-in_err-row-clause-fault : goal.returns-in_err-row-clause-fault
+returns-in_err-row-clause-fault g t c = if_err_handed c.from_residual-in_err-row.result _ Memory c.from_residual-in_err-row.ensures.1 (λ told. tt)
+
+pub returns-in_err-row-clause-leads : goal.returns-in_err-row-clause-leads
+returns-in_err-row-clause-leads g t c = g.B.Ground.leads_trans c.args.blocks.now c.row_below.new.blocks c.replace_run.new.blocks c.in_ok-below.ensures.kept.leads c.in_ok-made.ensures.leads
+
+pub returns-in_err-row-clause-cause : goal.returns-in_err-row-clause-cause
+returns-in_err-row-clause-cause g t c = cause_here (g.B.Ground.faults c.args.blocks.now) (g.B.Ground.faults c.replace_run.new.blocks) c.from_residual-in_err-row.result Memory c.from_residual-in_err-row.ensures.1 tt
+
+pub returns-then-level-eq0-clause-cause : goal.returns-then-level-eq0-clause-cause
+returns-then-level-eq0-clause-cause g t c = c.replace_leaves.ensures.cause
+
+pub returns-then-level-eq0-clause-count : goal.returns-then-level-eq0-clause-count
+returns-then-level-eq0-clause-count g t c = c.replace_leaves.ensures.count
+
+pub returns-then-level-eq0-clause-extends : goal.returns-then-level-eq0-clause-extends
+returns-then-level-eq0-clause-extends g t c = c.replace_leaves.ensures.extends
+
+pub returns-then-level-eq0-clause-leads : goal.returns-then-level-eq0-clause-leads
+returns-then-level-eq0-clause-leads g t c = c.replace_leaves.ensures.leads
+
+pub returns-then-level-eq0-clause-leaves : goal.returns-then-level-eq0-clause-leaves
+returns-then-level-eq0-clause-leaves g t c = c.replace_leaves.ensures.leaves
+
+pub returns-then-level-eq0-clause-sizes : goal.returns-then-level-eq0-clause-sizes
+returns-then-level-eq0-clause-sizes g t c = c.replace_leaves.ensures.sizes
+
+pub returns-then-level-eq0-clause-sum : goal.returns-then-level-eq0-clause-sum
+returns-then-level-eq0-clause-sum g t c = c.replace_leaves.ensures.sum
+
+pub returns-then-level-eq0-clause-fault : goal.returns-then-level-eq0-clause-fault
+returns-then-level-eq0-clause-fault g t c = walk_leaves (g.B.Ground.geometry c.args.blocks.now) (g.B.Ground.unit c.args.blocks.now) c.replace_leaves.result (g.B.Ground.tells c.args.blocks.now) c.args.level 0 c.args.least c.args.run.now c.if-level-eq0.true c.replace_leaves.ensures.fault
+
+pub returns-then-level-eq0-clause-grew : goal.returns-then-level-eq0-clause-grew
+returns-then-level-eq0-clause-grew g t c = if_ok_from c.replace_leaves.result _ (λ made is told l same holds. subst (λ (k : ℕ). Holds g.B.Ground c.args.blocks.now k c.args.run.now → Grew g.B.Ground c.args.blocks.now c.replace_leaves.new.blocks k c.args.run.now made.items (written (row_bytes (g.B.Ground.unit c.args.blocks.now) k c.args.run.now) c.args.pos c.args.given.now) (row_shape (g.B.Ground.unit c.args.blocks.now) k c.args.run.now)) (sym c.if-level-eq0.true ∙ same) (IfOk-at_ok _ is c.replace_leaves.ensures.grew told) holds)
+
+pub returns-clause-fault : goal.returns-clause-fault
+returns-clause-fault g t c = undamaged (g.B.Ground.geometry c.args.blocks.now) (g.B.Ground.unit c.args.blocks.now) c.nodes_by.result (g.B.Ground.tells c.args.blocks.now) c.args.level c.args.least c.args.run.now c.nodes_by.ensures.no_damage
+
+pub returns-clause-sizes : goal.returns-clause-sizes
+returns-clause-sizes g t c = c.nodes_by.ensures.sizes
+
+pub overflow_sub-level : goal.overflow_sub-level
+overflow_sub-level g t c = omega (arith, c.if-level-eq0.false)
+
+pub overflow_sub-span : goal.overflow_sub-span
+overflow_sub-span g t c = omega (arith, c.span_of-span.ensures.order)
+
+pub nodes_by-requires-clause-level : goal.nodes_by-requires-clause-level
+nodes_by-requires-clause-level g t c = omega (arith, c.if-level-eq0.false)
+
+pub row_below-requires-clause-level : goal.row_below-requires-clause-level
+row_below-requires-clause-level g t c = omega (arith, c.if-level-eq0.false)
+
+pub row_below-requires-clause-ready : goal.row_below-requires-clause-ready
+row_below-requires-clause-ready g t c = c.requires.ready
+
+pub spliced-requires-clause-order : goal.spliced-requires-clause-order
+spliced-requires-clause-order g t c = omega (arith, c.span_of-span.ensures.order)
+
+pub spliced-requires-clause-inside : goal.spliced-requires-clause-inside
+spliced-requires-clause-inside g t c = omega (arith, c.span_of-span.ensures.within, ap length c.deref.ensures.value, ap length c.deref-3.ensures.value)
+
+pub span_of-span-requires-clause-some : goal.span_of-span-requires-clause-some
+span_of-span-requires-clause-some g t c = c.requires.given
+
+pub replace_leaves-requires-clause-buffer : goal.replace_leaves-requires-clause-buffer
+replace_leaves-requires-clause-buffer g t c = c.requires.buffer
+
+pub replace_leaves-requires-clause-free : goal.replace_leaves-requires-clause-free
+replace_leaves-requires-clause-free g t c = c.requires.free
+
+pub replace_leaves-requires-clause-limit : goal.replace_leaves-requires-clause-limit
+replace_leaves-requires-clause-limit g t c = c.requires.limit
+
+pub replace_leaves-requires-clause-ready : goal.replace_leaves-requires-clause-ready
+replace_leaves-requires-clause-ready g t c = c.requires.ready
+
+pub replace_leaves-requires-clause-sizes : goal.replace_leaves-requires-clause-sizes
+replace_leaves-requires-clause-sizes g t c = c.requires.sizes
+
+pub replace_leaves-requires-clause-touched : goal.replace_leaves-requires-clause-touched
+replace_leaves-requires-clause-touched g t c = c.requires.touched
+
+pub replace_leaves-requires-clause-leaves : goal.replace_leaves-requires-clause-leaves
+replace_leaves-requires-clause-leaves g t c = subst (λ k. AreLeaves (g.B.Ground.geometry c.args.blocks.now) k c.args.run.now) c.if-level-eq0.true c.requires.leaves

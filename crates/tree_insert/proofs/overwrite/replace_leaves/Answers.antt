@@ -1,4 +1,4 @@
-use Rattle.std.proofs.Common.{arith, [], ◌∷◌, ◌≡◌, ◌≤◌, refl, ◌+◌, ◌-◌, ◌∙◌, ◌++◌, ap, subst, take, drop, length, get_or, take_all}
+use Rattle.std.proofs.Common.{arith, [], ◌∷◌, ◌≡◌, ◌≤◌, refl, ◌+◌, ◌-◌, ◌∙◌, ◌++◌, ap, subst, take, drop, length, get_or, take_all, sym}
 use Rattle.ex_base.specs.Sizes.{leaf_bytes}
 use Rattle.ex_base.proofs.Each.{each_at}
 use Rattle.ex_base.proofs.Geometries.{leaf_most}
@@ -10,6 +10,9 @@ use Rattle.trees.proofs.Kept.{leaves_back}
 use Rattle.trees.proofs.RowReads.{walk_tree}
 use Rattle.trees.proofs.Reading.{no_part}
 use Rattle.tree_insert.proofs.ReplacedLeaves.{leaf_here, piece_here, few_leaves, replaced_more, replaced_all, same_sizes, same_sum, same_some, same_count}
+use Rattle.ex_base.proofs.Handed.{no_value, not_given, cause_here}
+use Rattle.ex_base.specs.declared.faults.PortFault.TheVariants.{Memory}
+use Rattle.ex_base.specs.declared.geometry.Geometry.{Geometry}
 use Rattle.tree_insert.proofs.overwrite.replace_leaves.Goals as goal
 use Rattle.ex_base.proofs.Results.{cause_handed, if_err_handed}
 
@@ -82,3 +85,89 @@ returns-clause-grew g c =
 pub returns-clause-ends : goal.returns-clause-ends
 returns-clause-ends g c = λ told end which.
     subst (λ r. IsSoundEnd (g.B.Ground.geometry c.args.blocks.now) (g.B.Ground.unit c.args.blocks.now) 0 0 r end) (take_all c.loop-leaf.leaf-index c.args.run.now (omega arith)) (c.loop-leaf.invariant.ends told end which)
+
+-- ---- what else is asked and promised
+
+pub returns-in_err-new-clause-sum : goal.returns-in_err-new-clause-sum
+returns-in_err-new-clause-sum g c = no_value c.from_residual.result _ c.in_err-new.field-0.0 c.from_residual.ensures.1
+
+pub returns-in_err-new-clause-sizes : goal.returns-in_err-new-clause-sizes
+returns-in_err-new-clause-sizes g c = no_value c.from_residual.result _ c.in_err-new.field-0.0 c.from_residual.ensures.1
+
+pub returns-in_err-new-clause-count : goal.returns-in_err-new-clause-count
+returns-in_err-new-clause-count g c = no_value c.from_residual.result _ c.in_err-new.field-0.0 c.from_residual.ensures.1
+
+pub returns-in_err-new-clause-grew : goal.returns-in_err-new-clause-grew
+returns-in_err-new-clause-grew g c = no_value c.from_residual.result _ c.in_err-new.field-0.0 c.from_residual.ensures.1
+
+pub returns-in_err-new-clause-extends : goal.returns-in_err-new-clause-extends
+returns-in_err-new-clause-extends g c = not_given c.from_residual.result _ c.in_err-new.field-0.0 c.from_residual.ensures.1
+
+pub returns-in_err-new-clause-leaves : goal.returns-in_err-new-clause-leaves
+returns-in_err-new-clause-leaves g c = not_given c.from_residual.result _ c.in_err-new.field-0.0 c.from_residual.ensures.1
+
+pub returns-in_err-new-clause-pages : goal.returns-in_err-new-clause-pages
+returns-in_err-new-clause-pages g c = not_given c.from_residual.result _ c.in_err-new.field-0.0 c.from_residual.ensures.1
+
+pub returns-in_err-new-clause-ends : goal.returns-in_err-new-clause-ends
+returns-in_err-new-clause-ends g c = not_given c.from_residual.result _ c.in_err-new.field-0.0 c.from_residual.ensures.1
+
+pub returns-in_err-extend_from_slice-clause-sum : goal.returns-in_err-extend_from_slice-clause-sum
+returns-in_err-extend_from_slice-clause-sum g c = no_value c.from_residual-in_err-extend_from_slice.result _ Memory c.from_residual-in_err-extend_from_slice.ensures.1
+
+pub returns-in_err-extend_from_slice-clause-sizes : goal.returns-in_err-extend_from_slice-clause-sizes
+returns-in_err-extend_from_slice-clause-sizes g c = no_value c.from_residual-in_err-extend_from_slice.result _ Memory c.from_residual-in_err-extend_from_slice.ensures.1
+
+pub returns-in_err-extend_from_slice-clause-count : goal.returns-in_err-extend_from_slice-clause-count
+returns-in_err-extend_from_slice-clause-count g c = no_value c.from_residual-in_err-extend_from_slice.result _ Memory c.from_residual-in_err-extend_from_slice.ensures.1
+
+pub returns-in_err-extend_from_slice-clause-grew : goal.returns-in_err-extend_from_slice-clause-grew
+returns-in_err-extend_from_slice-clause-grew g c = no_value c.from_residual-in_err-extend_from_slice.result _ Memory c.from_residual-in_err-extend_from_slice.ensures.1
+
+pub returns-in_err-extend_from_slice-clause-extends : goal.returns-in_err-extend_from_slice-clause-extends
+returns-in_err-extend_from_slice-clause-extends g c = not_given c.from_residual-in_err-extend_from_slice.result _ Memory c.from_residual-in_err-extend_from_slice.ensures.1
+
+pub returns-in_err-extend_from_slice-clause-leaves : goal.returns-in_err-extend_from_slice-clause-leaves
+returns-in_err-extend_from_slice-clause-leaves g c = not_given c.from_residual-in_err-extend_from_slice.result _ Memory c.from_residual-in_err-extend_from_slice.ensures.1
+
+pub returns-in_err-extend_from_slice-clause-pages : goal.returns-in_err-extend_from_slice-clause-pages
+returns-in_err-extend_from_slice-clause-pages g c = not_given c.from_residual-in_err-extend_from_slice.result _ Memory c.from_residual-in_err-extend_from_slice.ensures.1
+
+pub returns-in_err-extend_from_slice-clause-ends : goal.returns-in_err-extend_from_slice-clause-ends
+returns-in_err-extend_from_slice-clause-ends g c = not_given c.from_residual-in_err-extend_from_slice.result _ Memory c.from_residual-in_err-extend_from_slice.ensures.1
+
+pub returns-in_err-extend_from_slice-clause-fault : goal.returns-in_err-extend_from_slice-clause-fault
+returns-in_err-extend_from_slice-clause-fault g c = if_err_handed c.from_residual-in_err-extend_from_slice.result _ Memory c.from_residual-in_err-extend_from_slice.ensures.1 (λ told. tt)
+
+pub returns-in_err-extend_from_slice-clause-leads : goal.returns-in_err-extend_from_slice-clause-leads
+returns-in_err-extend_from_slice-clause-leads g c = g.B.Ground.leads_trans c.args.blocks.now c.loop-leaf.blocks c.write_leaves.new.blocks c.loop-leaf.invariant.extends.leads c.in_ok-new.ensures.leads
+
+pub returns-in_err-extend_from_slice-clause-cause : goal.returns-in_err-extend_from_slice-clause-cause
+returns-in_err-extend_from_slice-clause-cause g c = cause_here (g.B.Ground.faults c.args.blocks.now) (g.B.Ground.faults c.write_leaves.new.blocks) c.from_residual-in_err-extend_from_slice.result Memory c.from_residual-in_err-extend_from_slice.ensures.1 tt
+
+pub returns-clause-cause : goal.returns-clause-cause
+returns-clause-cause g c = tt
+
+pub returns-clause-fault : goal.returns-clause-fault
+returns-clause-fault g c = tt
+
+pub returns-clause-extends : goal.returns-clause-extends
+returns-clause-extends g c = c.loop-leaf.invariant.extends
+
+pub returns-clause-leads : goal.returns-clause-leads
+returns-clause-leads g c = c.loop-leaf.invariant.extends.leads
+
+pub returns-clause-pages : goal.returns-clause-pages
+returns-clause-pages g c = omega (arith, c.loop-leaf.invariant.spent.of_pages)
+
+pub loop-leaf-smaller : goal.loop-leaf-smaller
+loop-leaf-smaller g c = omega (arith, c.loop-leaf-test.true)
+
+pub write_leaves-requires-clause-ready : goal.write_leaves-requires-clause-ready
+write_leaves-requires-clause-ready g c = g.B.Ground.leads_ready c.args.blocks.now c.loop-leaf.blocks c.loop-leaf.invariant.extends.leads c.requires.ready
+
+pub write_leaves-requires-clause-leaves : goal.write_leaves-requires-clause-leaves
+write_leaves-requires-clause-leaves g c = λ low. (subst (λ (geo : Geometry). (get_or c.args.run.now c.loop-leaf.leaf-index no_part).size ≤ leaf_bytes geo) (sym (g.B.Ground.leads_geometry c.args.blocks.now c.loop-leaf.blocks c.loop-leaf.invariant.extends.leads)) (each_at (λ (part : Part). part.size ≤ leaf_bytes (g.B.Ground.geometry c.args.blocks.now)) c.args.run.now c.loop-leaf.leaf-index no_part c.loop-leaf-test.true (c.requires.leaves.fit refl)), tt)
+
+pub slice_bounds-part-count : goal.slice_bounds-part-count
+slice_bounds-part-count g c = omega arith
