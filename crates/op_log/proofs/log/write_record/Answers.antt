@@ -4,6 +4,8 @@ use Rattle.disk_model.specs.Changes.{InRange}
 use Rattle.disk_model.specs.Runs.{leaves_wider, calls_trans, at_most_trans, at_most_wider}
 use Rattle.op_log.specs.Log.{AddsHere, SaysEither}
 use Rattle.op_log.proofs.Moments.{first_leaves, second_leaves, adds_says, then_says, first_changes, both_changes}
+use Rattle.ex_base.proofs.Handed.{not_given}
+use Rattle.op_log.proofs.Outcomes.{err_of}
 use Rattle.op_log.proofs.log.write_record.Goals as goal
 
 pub returns-in_err-write_settled-clause-changes : goal.returns-in_err-write_settled-clause-changes
@@ -56,3 +58,15 @@ returns-clause-at_most_four g c = at_most_trans c.write_settled.ensures.at_most_
 
 pub returns-clause-four : goal.returns-clause-four
 returns-clause-four g c = on_ok_weaker c.write_settled-2.result (λ twice. calls_trans c.in_ok-write_settled.ensures.twice twice) c.write_settled-2.ensures.twice
+
+pub returns-in_err-write_settled-clause-four : goal.returns-in_err-write_settled-clause-four
+returns-in_err-write_settled-clause-four g c = not_given c.from_residual.result _ _ c.from_residual.ensures.1
+
+pub returns-in_err-write_settled-clause-says : goal.returns-in_err-write_settled-clause-says
+returns-in_err-write_settled-clause-says g c = not_given c.from_residual.result _ _ c.from_residual.ensures.1
+
+pub returns-in_err-write_settled-clause-settled : goal.returns-in_err-write_settled-clause-settled
+returns-in_err-write_settled-clause-settled g c = not_given c.from_residual.result _ _ c.from_residual.ensures.1
+
+pub returns-in_err-write_settled-clause-cause : goal.returns-in_err-write_settled-clause-cause
+returns-in_err-write_settled-clause-cause g c = err_of c.from_residual.result _ c.in_err-write_settled.ensures.cause

@@ -5,6 +5,7 @@ use Rattle.versions.specs.Damage.{IsFoundAnd, IsReadThrough}
 use Rattle.versions.proofs.Faults.{version_kept}
 use Rattle.versions.proofs.Standing.{kept_holds}
 use Rattle.versions.proofs.Fed.{FedTo, fed_more}
+use Rattle.ex_base.proofs.Keeping.{keeps_on, cause_since}
 use Rattle.versions.proofs.digesting.digest_at.Goals as goal
 
 pub returns-in-Err-clause-sound : goal.returns-in-Err-clause-sound
@@ -35,3 +36,30 @@ returns-clause-reads g c = λ told some.
     let same : c.pieces.at ≡ c.args.size = omega (arith, c.pieces.invariant.inside, c.pieces-test.false) in
     subst (λ (n : ℕ). IsFoundAnd (g.V.Ground.geometry c.args.volume.now) (g.V.Ground.image c.args.volume.now) c.args.oid.now (IsReadThrough (g.V.Ground.geometry c.args.volume.now) (g.V.Ground.unit c.args.volume.now) 0 n)) same
     (c.pieces.invariant.reads told (omega (arith, some, same)))
+
+pub returns-in-Err-clause-hash : goal.returns-in-Err-clause-hash
+returns-in-Err-clause-hash g c = tt
+
+pub returns-in-Err-clause-reads : goal.returns-in-Err-clause-reads
+returns-in-Err-clause-reads g c = tt
+
+pub returns-in-Err-clause-kept : goal.returns-in-Err-clause-kept
+returns-in-Err-clause-kept g c = keeps_on g.V.Ground c.args.volume.now c.pieces.volume c.feed.new.volume c.pieces.invariant.kept c.feed.ensures.kept
+
+pub returns-in-Err-clause-cause : goal.returns-in-Err-clause-cause
+returns-in-Err-clause-cause g c = cause_since (g.V.Ground.faults c.args.volume.now) (g.V.Ground.faults c.pieces.volume) (g.V.Ground.faults c.feed.new.volume) c.in-Err.fault (g.V.Ground.leads_faults c.args.volume.now c.pieces.volume c.pieces.invariant.kept.leads) c.in-Err.ensures.cause
+
+pub returns-clause-sound : goal.returns-clause-sound
+returns-clause-sound g c = tt
+
+pub returns-clause-fault : goal.returns-clause-fault
+returns-clause-fault g c = tt
+
+pub returns-clause-cause : goal.returns-clause-cause
+returns-clause-cause g c = tt
+
+pub returns-clause-kept : goal.returns-clause-kept
+returns-clause-kept g c = c.pieces.invariant.kept
+
+pub feed-requires : goal.feed-requires
+feed-requires g c = g.V.Ground.leads_ready c.args.volume.now c.pieces.volume c.pieces.invariant.kept.leads c.requires.ready

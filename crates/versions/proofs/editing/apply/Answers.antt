@@ -19,6 +19,8 @@ use Rattle.versions.proofs.Results.{none_some, same_some, ok_of}
 use Rattle.versions.proofs.Standing.{version_readable, holds_of, head_told, kept_version, small_content, large_content}
 use Rattle.versions.proofs.Needed.{same_length, grows, edit_need_is}
 use Rattle.versions.proofs.Becoming.{kept_turned, kept_in_use, kept_stays, less_stays}
+use Rattle.ex_base.proofs.Handed.{no_value, not_given, cause_here, any_value, cause_of}
+use Rattle.trees.specs.Roots.{IsRootFor}
 use Rattle.versions.proofs.editing.apply.Goals as goal
 
 pub returns-in_err-found-clause-sound : goal.returns-in_err-found-clause-sound
@@ -263,3 +265,203 @@ returns-in-Some-clause-fault g c = IfErr-weaker c.edit_large.result _ _ (λ faul
     let at = at_some c.in_ok-told.told c.in_ok-found.found _ c.in_ok-found.ensures.some c.in_ok-told.ensures.reads told in
     large c.in-Some.root (root_at (g.V.Ground.geometry c.args.volume.now) (g.V.Ground.image c.args.volume.now) c.args.oid.now c.in_ok-found.found c.in-Some.root at c.in-Some.is)
     (bytes_kept g.V.Ground c.args.volume.now c.find.new.volume c.find.ensures.kept c.args.oid.now c.in-Some.root fault h told)) c.edit_large.ensures.fault
+
+pub returns-in_err-told-clause-stands : goal.returns-in_err-told-clause-stands
+returns-in_err-told-clause-stands g c = not_given c.from_residual.result _ c.in_err-told.field-0.0 c.from_residual.ensures.1
+
+pub returns-in_err-told-clause-asked : goal.returns-in_err-told-clause-asked
+returns-in_err-told-clause-asked g c = not_given c.from_residual.result _ c.in_err-told.field-0.0 c.from_residual.ensures.1
+
+pub returns-in_err-told-clause-reads : goal.returns-in_err-told-clause-reads
+returns-in_err-told-clause-reads g c = not_given c.from_residual.result _ c.in_err-told.field-0.0 c.from_residual.ensures.1
+
+pub returns-in_err-told-clause-nothing : goal.returns-in_err-told-clause-nothing
+returns-in_err-told-clause-nothing g c = not_given c.from_residual.result _ c.in_err-told.field-0.0 c.from_residual.ensures.1
+
+pub returns-in_err-told-clause-small : goal.returns-in_err-told-clause-small
+returns-in_err-told-clause-small g c = not_given c.from_residual.result _ c.in_err-told.field-0.0 c.from_residual.ensures.1
+
+pub returns-in_err-told-clause-free : goal.returns-in_err-told-clause-free
+returns-in_err-told-clause-free g c = not_given c.from_residual.result _ c.in_err-told.field-0.0 c.from_residual.ensures.1
+
+pub returns-in_err-told-clause-touches : goal.returns-in_err-told-clause-touches
+returns-in_err-told-clause-touches g c = not_given c.from_residual.result _ c.in_err-told.field-0.0 c.from_residual.ensures.1
+
+pub returns-in_err-told-clause-size : goal.returns-in_err-told-clause-size
+returns-in_err-told-clause-size g c = no_value c.from_residual.result _ c.in_err-told.field-0.0 c.from_residual.ensures.1
+
+pub returns-in_err-told-clause-no_root : goal.returns-in_err-told-clause-no_root
+returns-in_err-told-clause-no_root g c = no_value c.from_residual.result _ c.in_err-told.field-0.0 c.from_residual.ensures.1
+
+pub returns-in_err-told-clause-edited : goal.returns-in_err-told-clause-edited
+returns-in_err-told-clause-edited g c = no_value c.from_residual.result _ c.in_err-told.field-0.0 c.from_residual.ensures.1
+
+pub returns-in_err-told-clause-leads : goal.returns-in_err-told-clause-leads
+returns-in_err-told-clause-leads g c = c.find.ensures.kept.leads
+
+pub returns-in_err-told-clause-cause : goal.returns-in_err-told-clause-cause
+returns-in_err-told-clause-cause g c = cause_here (g.V.Ground.faults c.args.volume.now) (g.V.Ground.faults c.find.new.volume) c.from_residual.result c.in_err-told.field-0.0 c.from_residual.ensures.1 c.in_err-told.ensures.cause
+
+pub returns-in_err-found-clause-stands : goal.returns-in_err-found-clause-stands
+returns-in_err-found-clause-stands g c = not_given c.from_residual-in_err-found.result _ c.in_err-found.field-0.0 c.from_residual-in_err-found.ensures.1
+
+pub returns-in_err-found-clause-asked : goal.returns-in_err-found-clause-asked
+returns-in_err-found-clause-asked g c = not_given c.from_residual-in_err-found.result _ c.in_err-found.field-0.0 c.from_residual-in_err-found.ensures.1
+
+pub returns-in_err-found-clause-reads : goal.returns-in_err-found-clause-reads
+returns-in_err-found-clause-reads g c = not_given c.from_residual-in_err-found.result _ c.in_err-found.field-0.0 c.from_residual-in_err-found.ensures.1
+
+pub returns-in_err-found-clause-nothing : goal.returns-in_err-found-clause-nothing
+returns-in_err-found-clause-nothing g c = not_given c.from_residual-in_err-found.result _ c.in_err-found.field-0.0 c.from_residual-in_err-found.ensures.1
+
+pub returns-in_err-found-clause-small : goal.returns-in_err-found-clause-small
+returns-in_err-found-clause-small g c = not_given c.from_residual-in_err-found.result _ c.in_err-found.field-0.0 c.from_residual-in_err-found.ensures.1
+
+pub returns-in_err-found-clause-free : goal.returns-in_err-found-clause-free
+returns-in_err-found-clause-free g c = not_given c.from_residual-in_err-found.result _ c.in_err-found.field-0.0 c.from_residual-in_err-found.ensures.1
+
+pub returns-in_err-found-clause-touches : goal.returns-in_err-found-clause-touches
+returns-in_err-found-clause-touches g c = not_given c.from_residual-in_err-found.result _ c.in_err-found.field-0.0 c.from_residual-in_err-found.ensures.1
+
+pub returns-in_err-found-clause-size : goal.returns-in_err-found-clause-size
+returns-in_err-found-clause-size g c = no_value c.from_residual-in_err-found.result _ c.in_err-found.field-0.0 c.from_residual-in_err-found.ensures.1
+
+pub returns-in_err-found-clause-no_root : goal.returns-in_err-found-clause-no_root
+returns-in_err-found-clause-no_root g c = no_value c.from_residual-in_err-found.result _ c.in_err-found.field-0.0 c.from_residual-in_err-found.ensures.1
+
+pub returns-in_err-found-clause-edited : goal.returns-in_err-found-clause-edited
+returns-in_err-found-clause-edited g c = no_value c.from_residual-in_err-found.result _ c.in_err-found.field-0.0 c.from_residual-in_err-found.ensures.1
+
+pub returns-in_err-found-clause-leads : goal.returns-in_err-found-clause-leads
+returns-in_err-found-clause-leads g c = c.find.ensures.kept.leads
+
+pub returns-in_err-found-clause-cause : goal.returns-in_err-found-clause-cause
+returns-in_err-found-clause-cause g c = cause_here (g.V.Ground.faults c.args.volume.now) (g.V.Ground.faults c.find.new.volume) c.from_residual-in_err-found.result c.in_err-found.field-0.0 c.from_residual-in_err-found.ensures.1 (c.in_err-found.ensures.cause (g.V.Ground.faults c.args.volume.now) (g.V.Ground.faults c.find.new.volume))
+
+pub returns-in_err-check-clause-stands : goal.returns-in_err-check-clause-stands
+returns-in_err-check-clause-stands g c = not_given c.from_residual-in_err-check.result _ c.in_err-check.field-0.0 c.from_residual-in_err-check.ensures.1
+
+pub returns-in_err-check-clause-asked : goal.returns-in_err-check-clause-asked
+returns-in_err-check-clause-asked g c = not_given c.from_residual-in_err-check.result _ c.in_err-check.field-0.0 c.from_residual-in_err-check.ensures.1
+
+pub returns-in_err-check-clause-reads : goal.returns-in_err-check-clause-reads
+returns-in_err-check-clause-reads g c = not_given c.from_residual-in_err-check.result _ c.in_err-check.field-0.0 c.from_residual-in_err-check.ensures.1
+
+pub returns-in_err-check-clause-nothing : goal.returns-in_err-check-clause-nothing
+returns-in_err-check-clause-nothing g c = not_given c.from_residual-in_err-check.result _ c.in_err-check.field-0.0 c.from_residual-in_err-check.ensures.1
+
+pub returns-in_err-check-clause-small : goal.returns-in_err-check-clause-small
+returns-in_err-check-clause-small g c = not_given c.from_residual-in_err-check.result _ c.in_err-check.field-0.0 c.from_residual-in_err-check.ensures.1
+
+pub returns-in_err-check-clause-free : goal.returns-in_err-check-clause-free
+returns-in_err-check-clause-free g c = not_given c.from_residual-in_err-check.result _ c.in_err-check.field-0.0 c.from_residual-in_err-check.ensures.1
+
+pub returns-in_err-check-clause-touches : goal.returns-in_err-check-clause-touches
+returns-in_err-check-clause-touches g c = not_given c.from_residual-in_err-check.result _ c.in_err-check.field-0.0 c.from_residual-in_err-check.ensures.1
+
+pub returns-in_err-check-clause-size : goal.returns-in_err-check-clause-size
+returns-in_err-check-clause-size g c = no_value c.from_residual-in_err-check.result _ c.in_err-check.field-0.0 c.from_residual-in_err-check.ensures.1
+
+pub returns-in_err-check-clause-no_root : goal.returns-in_err-check-clause-no_root
+returns-in_err-check-clause-no_root g c = no_value c.from_residual-in_err-check.result _ c.in_err-check.field-0.0 c.from_residual-in_err-check.ensures.1
+
+pub returns-in_err-check-clause-edited : goal.returns-in_err-check-clause-edited
+returns-in_err-check-clause-edited g c = no_value c.from_residual-in_err-check.result _ c.in_err-check.field-0.0 c.from_residual-in_err-check.ensures.1
+
+pub returns-in_err-check-clause-leads : goal.returns-in_err-check-clause-leads
+returns-in_err-check-clause-leads g c = c.find.ensures.kept.leads
+
+pub returns-in_err-check-clause-cause : goal.returns-in_err-check-clause-cause
+returns-in_err-check-clause-cause g c = cause_here (g.V.Ground.faults c.args.volume.now) (g.V.Ground.faults c.find.new.volume) c.from_residual-in_err-check.result c.in_err-check.field-0.0 c.from_residual-in_err-check.ensures.1 (c.in_err-check.ensures.cause (g.V.Ground.faults c.args.volume.now) (g.V.Ground.faults c.find.new.volume))
+
+pub returns-then-count-eq0-clause-stands : goal.returns-then-count-eq0-clause-stands
+returns-then-count-eq0-clause-stands g c = at_some c.in_ok-told.told c.in_ok-found.found _ c.in_ok-found.ensures.some c.in_ok-told.ensures.stands
+
+pub returns-then-count-eq0-clause-nothing : goal.returns-then-count-eq0-clause-nothing
+returns-then-count-eq0-clause-nothing g c = λ none. c.find.ensures.kept
+
+pub returns-then-count-eq0-clause-no_root : goal.returns-then-count-eq0-clause-no_root
+returns-then-count-eq0-clause-no_root g c = λ none. (ap (λ (e : Edited). e.gone) c.stayed.ensures, ap (λ (e : Edited). e.come) c.stayed.ensures)
+
+pub returns-then-count-eq0-clause-edited : goal.returns-then-count-eq0-clause-edited
+returns-then-count-eq0-clause-edited g c = λ many. absurd (omega (arith, many, c.count.ensures, c.if-count-eq0.true))
+
+pub returns-then-count-eq0-clause-small : goal.returns-then-count-eq0-clause-small
+returns-then-count-eq0-clause-small g c = λ told index head content bytes has stays. c.find.ensures.kept.free
+
+pub returns-then-count-eq0-clause-free : goal.returns-then-count-eq0-clause-free
+returns-then-count-eq0-clause-free g c = λ told index head content bytes has area. omega (arith, ap (λ (f : Area → ℕ). f area) c.find.ensures.kept.free)
+
+pub returns-then-count-eq0-clause-sound : goal.returns-then-count-eq0-clause-sound
+returns-then-count-eq0-clause-sound g c = tt
+
+pub returns-then-count-eq0-clause-fault : goal.returns-then-count-eq0-clause-fault
+returns-then-count-eq0-clause-fault g c = tt
+
+pub returns-then-count-eq0-clause-touches : goal.returns-then-count-eq0-clause-touches
+returns-then-count-eq0-clause-touches g c = omega (arith, c.find.ensures.kept.touched)
+
+pub returns-then-count-eq0-clause-leads : goal.returns-then-count-eq0-clause-leads
+returns-then-count-eq0-clause-leads g c = c.find.ensures.kept.leads
+
+pub returns-then-count-eq0-clause-cause : goal.returns-then-count-eq0-clause-cause
+returns-then-count-eq0-clause-cause g c = tt
+
+pub returns-in-None-clause-stands : goal.returns-in-None-clause-stands
+returns-in-None-clause-stands g c = ok_of c.edit_small.result _ (at_some c.in_ok-told.told c.in_ok-found.found _ c.in_ok-found.ensures.some c.in_ok-told.ensures.stands)
+
+pub returns-in-None-clause-nothing : goal.returns-in-None-clause-nothing
+returns-in-None-clause-nothing g c = ok_of c.edit_small.result _ (λ none. absurd (omega (arith, none, c.count.ensures, c.if-count-eq0.false)))
+
+pub returns-in-None-clause-no_root : goal.returns-in-None-clause-no_root
+returns-in-None-clause-no_root g c = any_value c.edit_small.result _ (λ done none. absurd (omega (arith, none, c.count.ensures, c.if-count-eq0.false)))
+
+pub returns-in-None-clause-leads : goal.returns-in-None-clause-leads
+returns-in-None-clause-leads g c = g.V.Ground.leads_trans c.args.volume.now c.find.new.volume c.edit_small.new.volume c.find.ensures.kept.leads c.edit_small.ensures.leads
+
+pub returns-in-None-clause-cause : goal.returns-in-None-clause-cause
+returns-in-None-clause-cause g c = cause_of g.V.Ground c.args.volume.now c.find.new.volume c.find.ensures.kept.leads c.edit_small.new.volume c.edit_small.result c.edit_small.ensures.cause
+
+pub returns-in-Some-clause-stands : goal.returns-in-Some-clause-stands
+returns-in-Some-clause-stands g c = ok_of c.edit_large.result _ (at_some c.in_ok-told.told c.in_ok-found.found _ c.in_ok-found.ensures.some c.in_ok-told.ensures.stands)
+
+pub returns-in-Some-clause-nothing : goal.returns-in-Some-clause-nothing
+returns-in-Some-clause-nothing g c = ok_of c.edit_large.result _ (λ none. absurd (omega (arith, none, c.count.ensures, c.if-count-eq0.false)))
+
+pub returns-in-Some-clause-no_root : goal.returns-in-Some-clause-no_root
+returns-in-Some-clause-no_root g c = any_value c.edit_large.result _ (λ done none. absurd (omega (arith, none, c.count.ensures, c.if-count-eq0.false)))
+
+pub returns-in-Some-clause-leads : goal.returns-in-Some-clause-leads
+returns-in-Some-clause-leads g c = g.V.Ground.leads_trans c.args.volume.now c.find.new.volume c.edit_large.new.volume c.find.ensures.kept.leads c.edit_large.ensures.leads
+
+pub returns-in-Some-clause-cause : goal.returns-in-Some-clause-cause
+returns-in-Some-clause-cause g c = cause_of g.V.Ground c.args.volume.now c.find.new.volume c.find.ensures.kept.leads c.edit_large.new.volume c.edit_large.result c.edit_large.ensures.cause
+
+pub edit_small-requires-clause-ready : goal.edit_small-requires-clause-ready
+edit_small-requires-clause-ready g c = g.V.Ground.leads_ready c.args.volume.now c.find.new.volume c.find.ensures.kept.leads c.requires
+
+pub edit_small-requires-clause-head : goal.edit_small-requires-clause-head
+edit_small-requires-clause-head g c = at_some c.in_ok-told.told c.in_ok-found.found _ c.in_ok-found.ensures.some c.in_ok-told.ensures.head
+
+pub edit_large-requires-clause-ready : goal.edit_large-requires-clause-ready
+edit_large-requires-clause-ready g c = g.V.Ground.leads_ready c.args.volume.now c.find.new.volume c.find.ensures.kept.leads c.requires
+
+pub edit_large-requires-clause-head : goal.edit_large-requires-clause-head
+edit_large-requires-clause-head g c = at_some c.in_ok-told.told c.in_ok-found.found _ c.in_ok-found.ensures.some c.in_ok-told.ensures.head
+
+pub edit_small-requires-clause-range : goal.edit_small-requires-clause-range
+edit_small-requires-clause-range g c = (c.is_editable.ensures.0 c.in_ok-check.ensures.holds).1
+
+pub edit_small-requires-clause-short : goal.edit_small-requires-clause-short
+edit_small-requires-clause-short g c = at_some c.in_ok-told.told c.in_ok-found.found _ c.in_ok-found.ensures.some c.in_ok-told.ensures.small c.in-None.is
+
+pub edit_large-requires-clause-root : goal.edit_large-requires-clause-root
+edit_large-requires-clause-root g c =
+    subst (λ (y : Geometry). IsRootFor y c.in-Some.root) (sym (g.V.Ground.leads_geometry c.args.volume.now c.find.new.volume c.find.ensures.kept.leads)) (at_some c.in_ok-found.found.root c.in-Some.root _ c.in-Some.is (at_some c.in_ok-told.told c.in_ok-found.found _ c.in_ok-found.ensures.some c.in_ok-told.ensures.root))
+
+pub edit_large-requires-clause-range : goal.edit_large-requires-clause-range
+edit_large-requires-clause-range g c =
+    subst (InRange (change_of c.args.edit.now)) (at_some c.in_ok-found.found.root c.in-Some.root _ c.in-Some.is (at_some c.in_ok-told.told c.in_ok-found.found _ c.in_ok-found.ensures.some c.in_ok-told.ensures.large)) (c.is_editable.ensures.0 c.in_ok-check.ensures.holds).1
+
+pub find-requires : goal.find-requires
+find-requires g c = c.requires

@@ -12,6 +12,7 @@ use Rattle.versions.specs.Damage.{no_tree, small}
 use Rattle.versions.proofs.Faults.{bytes_kept, step_version}
 use Rattle.versions.proofs.Standing.{kept_version}
 use Rattle.versions.proofs.Becoming.{kept_turned, kept_in_use, kept_stays}
+use Rattle.ex_base.proofs.Handed.{cause_of}
 use Rattle.versions.proofs.editing.edit_small.Goals as goal
 
 pub returns-in-Ok-clause-size : goal.returns-in-Ok-clause-size
@@ -82,3 +83,45 @@ returns-in-Ok-clause-fault g c = IfErr-weaker c.put_edited.result _ _ (λ fault 
 pub returns-in-Err-clause-fault : goal.returns-in-Err-clause-fault
 returns-in-Err-clause-fault g c = λ told.
     step_version (g.V.Ground.geometry c.args.volume.now) (g.V.Ground.unit c.args.volume.now) (g.V.Ground.image c.args.volume.now) c.place_of.result c.args.oid.now c.in-Err.fault c.place_of.ensures (c.in-Err.ensures.fault told)
+
+pub returns-in-Err-clause-size : goal.returns-in-Err-clause-size
+returns-in-Err-clause-size g c = tt
+
+pub returns-in-Err-clause-edited : goal.returns-in-Err-clause-edited
+returns-in-Err-clause-edited g c = tt
+
+pub returns-in-Err-clause-small : goal.returns-in-Err-clause-small
+returns-in-Err-clause-small g c = tt
+
+pub returns-in-Err-clause-free : goal.returns-in-Err-clause-free
+returns-in-Err-clause-free g c = tt
+
+pub returns-in-Err-clause-touches : goal.returns-in-Err-clause-touches
+returns-in-Err-clause-touches g c = tt
+
+pub returns-in-Err-clause-leads : goal.returns-in-Err-clause-leads
+returns-in-Err-clause-leads g c = c.edited_small.ensures.kept.leads
+
+pub returns-in-Err-clause-cause : goal.returns-in-Err-clause-cause
+returns-in-Err-clause-cause g c = c.in-Err.ensures.cause
+
+pub returns-in-Ok-clause-leads : goal.returns-in-Ok-clause-leads
+returns-in-Ok-clause-leads g c = g.V.Ground.leads_trans c.args.volume.now c.edited_small.new.volume c.put_edited.new.volume c.edited_small.ensures.kept.leads c.put_edited.ensures.leads
+
+pub returns-in-Ok-clause-cause : goal.returns-in-Ok-clause-cause
+returns-in-Ok-clause-cause g c = cause_of g.V.Ground c.args.volume.now c.edited_small.new.volume c.edited_small.ensures.kept.leads c.put_edited.new.volume c.put_edited.result c.put_edited.ensures.cause
+
+pub edited_small-requires-clause-ready : goal.edited_small-requires-clause-ready
+edited_small-requires-clause-ready g c = c.requires.ready
+
+pub edited_small-requires-clause-range : goal.edited_small-requires-clause-range
+edited_small-requires-clause-range g c = c.requires.range
+
+pub edited_small-requires-clause-short : goal.edited_small-requires-clause-short
+edited_small-requires-clause-short g c = c.requires.short
+
+pub put_edited-requires-clause-ready : goal.put_edited-requires-clause-ready
+put_edited-requires-clause-ready g c = g.V.Ground.leads_ready c.args.volume.now c.edited_small.new.volume c.edited_small.ensures.kept.leads c.requires.ready
+
+pub put_edited-requires-clause-head : goal.put_edited-requires-clause-head
+put_edited-requires-clause-head g c = c.requires.head

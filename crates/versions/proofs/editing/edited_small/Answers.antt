@@ -11,3 +11,21 @@ returns-in-Ok-clause-sound g c = IfErr-weaker c.edited_by.result _ _ (λ fault n
 
 pub returns-in-Err-clause-fault : goal.returns-in-Err-clause-fault
 returns-in-Err-clause-fault g c = λ told. own (λ damage. damage)
+
+pub returns-in-Ok-clause-limit : goal.returns-in-Ok-clause-limit
+returns-in-Ok-clause-limit g c = c.edited_by.ensures.limit
+
+pub returns-in-Ok-clause-fault : goal.returns-in-Ok-clause-fault
+returns-in-Ok-clause-fault g c = c.edited_by.ensures.fault
+
+pub returns-in-Ok-clause-kept : goal.returns-in-Ok-clause-kept
+returns-in-Ok-clause-kept g c = c.edited_by.ensures.kept
+
+pub returns-in-Ok-clause-cause : goal.returns-in-Ok-clause-cause
+returns-in-Ok-clause-cause g c = c.edited_by.ensures.cause
+
+pub returns-in-Ok-clause-page : goal.returns-in-Ok-clause-page
+returns-in-Ok-clause-page g c = c.edited_by.ensures.page
+
+pub edited_by-requires-clause-ready : goal.edited_by-requires-clause-ready
+edited_by-requires-clause-ready g c = c.requires.ready

@@ -1,4 +1,4 @@
-use Rattle.std.proofs.Common.{◌≡◌, true, false, length, ap, ◌∙◌, arith, inl, inr}
+use Rattle.std.proofs.Common.{◌≡◌, true, false, length, ap, ◌∙◌, arith, inl, inr, ℕ, subst, sym}
 use Rattle.std.proofs.lemmas.Bool.{cases_lt}
 use Rattle.std.proofs.lemmas.Result.{IfErr-weaker, IfOk-weaker, on_ok_weaker}
 use Rattle.object_records.specs.Record.{Small}
@@ -8,6 +8,13 @@ use Rattle.versions.proofs.Faults.{place_bytes, bytes_kept}
 use Rattle.versions.proofs.Standing.{kept_version}
 use Rattle.versions.proofs.Becoming.{becomes_small, stays_at, never_stays, held_most, less_stays, kept_turned, kept_in_use, stayed_before}
 use Rattle.versions.proofs.Results.{ok_of}
+use Rattle.ex_base.proofs.Handed.{no_value, not_given, cause_here, cause_of}
+use Rattle.ex_base.specs.declared.names.Area.{Area}
+use Rattle.versions.specs.declared.editing.Edited.{Edited}
+use Rattle.ex_base.specs.declared.geometry.Geometry.{Geometry}
+use Rattle.ex_base.specs.Needs.{growth_need}
+use Rattle.file_bodies.specs.Files.{HasBody}
+use Rattle.ex_base.specs.declared.names.Place.{Place}
 use Rattle.versions.proofs.editing.put_edited.Goals as goal
 use Rattle.ex_base.proofs.Results.{if_err_handed}
 
@@ -69,3 +76,118 @@ returns-in_err-check-clause-fault g c = if_err_handed c.from_residual.result _ _
 pub returns-clause-fault : goal.returns-clause-fault
 returns-clause-fault g c = IfErr-weaker c.convert.result _ _ (λ fault h told.
     bytes_kept g.V.Ground c.args.volume.now c.put_small.new.volume (c.in-Ok-false.ensures.kept c.in-Ok-false.field-0-test) c.args.oid.now no_tree fault h told) c.convert.ensures.fault
+
+pub returns-in_err-check-clause-small : goal.returns-in_err-check-clause-small
+returns-in_err-check-clause-small g c = not_given c.from_residual.result _ c.in_err-check.field-0.0 c.from_residual.ensures.1
+
+pub returns-in_err-check-clause-free : goal.returns-in_err-check-clause-free
+returns-in_err-check-clause-free g c = not_given c.from_residual.result _ c.in_err-check.field-0.0 c.from_residual.ensures.1
+
+pub returns-in_err-check-clause-touches : goal.returns-in_err-check-clause-touches
+returns-in_err-check-clause-touches g c = not_given c.from_residual.result _ c.in_err-check.field-0.0 c.from_residual.ensures.1
+
+pub returns-in_err-check-clause-size : goal.returns-in_err-check-clause-size
+returns-in_err-check-clause-size g c = no_value c.from_residual.result _ c.in_err-check.field-0.0 c.from_residual.ensures.1
+
+pub returns-in_err-check-clause-edited : goal.returns-in_err-check-clause-edited
+returns-in_err-check-clause-edited g c = no_value c.from_residual.result _ c.in_err-check.field-0.0 c.from_residual.ensures.1
+
+pub returns-in_err-check-clause-leads : goal.returns-in_err-check-clause-leads
+returns-in_err-check-clause-leads g c = c.put_small.ensures.leads
+
+pub returns-in_err-check-clause-cause : goal.returns-in_err-check-clause-cause
+returns-in_err-check-clause-cause g c = cause_here (g.V.Ground.faults c.args.volume.now) (g.V.Ground.faults c.put_small.new.volume) c.from_residual.result c.in_err-check.field-0.0 c.from_residual.ensures.1 (c.in_err-check.ensures.cause (g.V.Ground.faults c.args.volume.now) (g.V.Ground.faults c.put_small.new.volume))
+
+pub returns-in-Ok-true-clause-size : goal.returns-in-Ok-true-clause-size
+returns-in-Ok-true-clause-size g c = ap (λ (e : Edited). e.size) c.stayed.ensures
+
+pub returns-in-Ok-true-clause-small : goal.returns-in-Ok-true-clause-small
+returns-in-Ok-true-clause-small g c = λ told index held has stays. c.in-Ok-true.ensures.free
+
+pub returns-in-Ok-true-clause-free : goal.returns-in-Ok-true-clause-free
+returns-in-Ok-true-clause-free g c = λ area. omega (arith, ap (λ (f : Area → ℕ). f area) c.in-Ok-true.ensures.free)
+
+pub returns-in-Ok-true-clause-sound : goal.returns-in-Ok-true-clause-sound
+returns-in-Ok-true-clause-sound g c = tt
+
+pub returns-in-Ok-true-clause-fault : goal.returns-in-Ok-true-clause-fault
+returns-in-Ok-true-clause-fault g c = tt
+
+pub returns-in-Ok-true-clause-touches : goal.returns-in-Ok-true-clause-touches
+returns-in-Ok-true-clause-touches g c = c.in-Ok-true.ensures.touches
+
+pub returns-in-Ok-true-clause-leads : goal.returns-in-Ok-true-clause-leads
+returns-in-Ok-true-clause-leads g c = c.put_small.ensures.leads
+
+pub returns-in-Ok-true-clause-cause : goal.returns-in-Ok-true-clause-cause
+returns-in-Ok-true-clause-cause g c = tt
+
+pub returns-in-Err-clause-size : goal.returns-in-Err-clause-size
+returns-in-Err-clause-size g c = tt
+
+pub returns-in-Err-clause-edited : goal.returns-in-Err-clause-edited
+returns-in-Err-clause-edited g c = tt
+
+pub returns-in-Err-clause-small : goal.returns-in-Err-clause-small
+returns-in-Err-clause-small g c = tt
+
+pub returns-in-Err-clause-free : goal.returns-in-Err-clause-free
+returns-in-Err-clause-free g c = tt
+
+pub returns-in-Err-clause-touches : goal.returns-in-Err-clause-touches
+returns-in-Err-clause-touches g c = tt
+
+pub returns-in-Err-clause-leads : goal.returns-in-Err-clause-leads
+returns-in-Err-clause-leads g c = c.put_small.ensures.leads
+
+pub returns-in-Err-clause-cause : goal.returns-in-Err-clause-cause
+returns-in-Err-clause-cause g c = c.in-Err.ensures.cause
+
+pub returns-clause-size : goal.returns-clause-size
+returns-clause-size g c = c.convert.ensures.size
+
+pub returns-clause-leads : goal.returns-clause-leads
+returns-clause-leads g c = g.V.Ground.leads_trans c.args.volume.now c.put_small.new.volume c.convert.new.volume c.put_small.ensures.leads c.convert.ensures.leads
+
+pub returns-clause-cause : goal.returns-clause-cause
+returns-clause-cause g c = cause_of g.V.Ground c.args.volume.now c.put_small.new.volume c.put_small.ensures.leads c.convert.new.volume c.convert.result c.convert.ensures.cause
+
+pub put_small-requires-clause-ready : goal.put_small-requires-clause-ready
+put_small-requires-clause-ready g c = c.requires.ready
+
+pub put_small-requires-clause-head : goal.put_small-requires-clause-head
+put_small-requires-clause-head g c = c.requires.head
+
+pub is_grown-requires-clause-ready : goal.is_grown-requires-clause-ready
+is_grown-requires-clause-ready g c = g.V.Ground.leads_ready c.args.volume.now c.put_small.new.volume c.put_small.ensures.leads c.requires.ready
+
+pub is_grown-requires-clause-count : goal.is_grown-requires-clause-count
+is_grown-requires-clause-count g c = c.requires.count
+
+pub convert-requires-clause-ready : goal.convert-requires-clause-ready
+convert-requires-clause-ready g c = g.V.Ground.leads_ready c.args.volume.now c.put_small.new.volume c.put_small.ensures.leads c.requires.ready
+
+pub convert-requires-clause-head : goal.convert-requires-clause-head
+convert-requires-clause-head g c = c.requires.head
+
+pub convert-requires-clause-count : goal.convert-requires-clause-count
+convert-requires-clause-count g c = c.requires.count
+
+pub convert-requires-clause-some : goal.convert-requires-clause-some
+convert-requires-clause-some g c = (c.is_grown.ensures.0 c.in_ok-check.ensures.holds).0
+
+pub convert-requires-clause-limit : goal.convert-requires-clause-limit
+convert-requires-clause-limit g c = c.requires.limit
+
+pub convert-requires-clause-page : goal.convert-requires-clause-page
+convert-requires-clause-page g c = (c.is_grown.ensures.0 c.in_ok-check.ensures.holds).1
+
+pub returns-in-Err-clause-sound : goal.returns-in-Err-clause-sound
+returns-in-Err-clause-sound g c = λ damage told in_use index held has few size need.
+    c.in-Err.ensures.sound damage told index has.stored.body (subst (λ (p : Place). HasBody g.V.Ground c.args.volume.now index p has.stored.body) (sym c.place_of.ensures) has.stored.stands)
+
+pub returns-clause-free : goal.returns-clause-free
+returns-clause-free g c = on_ok_weaker c.convert.result (λ free area.
+    let kept = c.in-Ok-false.ensures.kept c.in-Ok-false.field-0-test in
+    let geo = g.V.Ground.leads_geometry c.args.volume.now c.put_small.new.volume kept.leads in
+    omega (arith, free area, ap (λ (f : Area → ℕ). f area) kept.free, ap (λ (y : Geometry). growth_need y c.args.count 0 area) geo)) c.convert.ensures.free

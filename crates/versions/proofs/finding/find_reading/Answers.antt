@@ -71,3 +71,78 @@ returns-in-Ok-Some-clause-way g c = ok_of c.told_reading.result _ (λ told. subs
 
 pub returns-in-Ok-None-clause-way : goal.returns-in-Ok-None-clause-way
 returns-in-Ok-None-clause-way g c = λ told. subst (λ (p : Place). IsBelonging (g.V.Ground.geometry c.args.volume.now) (g.V.Ground.image c.args.volume.now) p.page.0) c.place_of.ensures (c.in-Ok-None.ensures.way told)
+
+pub returns-in-Err-clause-stands : goal.returns-in-Err-clause-stands
+returns-in-Err-clause-stands g c = tt
+
+pub returns-in-Err-clause-told : goal.returns-in-Err-clause-told
+returns-in-Err-clause-told g c = tt
+
+pub returns-in-Err-clause-size : goal.returns-in-Err-clause-size
+returns-in-Err-clause-size g c = tt
+
+pub returns-in-Err-clause-bytes : goal.returns-in-Err-clause-bytes
+returns-in-Err-clause-bytes g c = tt
+
+pub returns-in-Err-clause-head : goal.returns-in-Err-clause-head
+returns-in-Err-clause-head g c = tt
+
+pub returns-in-Err-clause-small : goal.returns-in-Err-clause-small
+returns-in-Err-clause-small g c = tt
+
+pub returns-in-Err-clause-root : goal.returns-in-Err-clause-root
+returns-in-Err-clause-root g c = tt
+
+pub returns-in-Err-clause-large : goal.returns-in-Err-clause-large
+returns-in-Err-clause-large g c = tt
+
+pub returns-in-Err-clause-reads : goal.returns-in-Err-clause-reads
+returns-in-Err-clause-reads g c = tt
+
+pub returns-in-Err-clause-way : goal.returns-in-Err-clause-way
+returns-in-Err-clause-way g c = tt
+
+pub returns-in-Err-clause-len : goal.returns-in-Err-clause-len
+returns-in-Err-clause-len g c = refl
+
+pub returns-in-Ok-None-clause-stands : goal.returns-in-Ok-None-clause-stands
+returns-in-Ok-None-clause-stands g c = tt
+
+pub returns-in-Ok-None-clause-bytes : goal.returns-in-Ok-None-clause-bytes
+returns-in-Ok-None-clause-bytes g c = tt
+
+pub returns-in-Ok-None-clause-head : goal.returns-in-Ok-None-clause-head
+returns-in-Ok-None-clause-head g c = tt
+
+pub returns-in-Ok-None-clause-small : goal.returns-in-Ok-None-clause-small
+returns-in-Ok-None-clause-small g c = tt
+
+pub returns-in-Ok-None-clause-root : goal.returns-in-Ok-None-clause-root
+returns-in-Ok-None-clause-root g c = tt
+
+pub returns-in-Ok-None-clause-large : goal.returns-in-Ok-None-clause-large
+returns-in-Ok-None-clause-large g c = tt
+
+pub returns-in-Ok-None-clause-reads : goal.returns-in-Ok-None-clause-reads
+returns-in-Ok-None-clause-reads g c = tt
+
+pub returns-in-Ok-None-clause-sound : goal.returns-in-Ok-None-clause-sound
+returns-in-Ok-None-clause-sound g c = tt
+
+pub returns-in-Ok-None-clause-fault : goal.returns-in-Ok-None-clause-fault
+returns-in-Ok-None-clause-fault g c = tt
+
+pub returns-in-Ok-None-clause-cause : goal.returns-in-Ok-None-clause-cause
+returns-in-Ok-None-clause-cause g c = tt
+
+pub returns-in-Ok-None-clause-len : goal.returns-in-Ok-None-clause-len
+returns-in-Ok-None-clause-len g c = refl
+
+pub returns-in-Ok-Some-clause-len : goal.returns-in-Ok-Some-clause-len
+returns-in-Ok-Some-clause-len g c = c.told_reading.ensures.len
+
+pub body_at-requires : goal.body_at-requires
+body_at-requires g c = c.requires
+
+pub returns-in-Err-clause-sound : goal.returns-in-Err-clause-sound
+returns-in-Err-clause-sound g c = λ damage told file readable. c.in-Err.ensures.sound damage told (subst (λ (p : Place). HasFileOf g.V.Ground c.args.volume.now p.page.0) (sym c.place_of.ensures) file)

@@ -1,4 +1,4 @@
-use Rattle.std.proofs.Common.{◌≡◌, ◌+◌, ◌≤◌, length, true, false, ap, ◌∙◌, arith}
+use Rattle.std.proofs.Common.{◌≡◌, ◌+◌, ◌≤◌, length, true, false, ap, ◌∙◌, arith, subst, sym}
 use Rattle.std.proofs.lemmas.Result.{IfErr-weaker, on_ok_weaker}
 use Rattle.ex_base.specs.Bytes.{bytes_at}
 use Rattle.ex_base.proofs.Options.{at_some}
@@ -8,8 +8,12 @@ use Rattle.versions.specs.Versions.{place_of}
 use Rattle.file_bodies.proofs.Belonging.{file_of_body}
 use Rattle.versions.specs.Damage.{record_fault, looking, small, large, unlike, in_tree}
 use Rattle.versions.proofs.Faults.{root_at, tree_kept, way_kept}
-use Rattle.versions.proofs.Results.{at_nothing, at_this, none_some, same_some}
+use Rattle.versions.proofs.Results.{at_nothing, at_this, none_some, same_some, ok_of}
 use Rattle.versions.proofs.Standing.{version_readable, version_whole, kept_holds, large_version}
+use Rattle.ex_base.proofs.Handed.{not_given, cause_here, cause_of}
+use Rattle.ex_base.proofs.Keeping.{keeps_on}
+use Rattle.ex_base.specs.declared.geometry.Geometry.{Geometry}
+use Rattle.trees.specs.Roots.{IsRootFor}
 use Rattle.versions.proofs.finding.read_at.Goals as goal
 
 pub returns-in_err-found-clause-sound : goal.returns-in_err-found-clause-sound
@@ -90,3 +94,86 @@ returns-in-Some-clause-reads g c = on_ok_weaker c.read.result (λ way told.
             (λ byte low high. way_kept g.V.Ground c.args.volume.now c.find_reading.new.volume c.find_reading.ensures.kept c.args.pos (length c.find_reading.new.out) c.in-Some.root way told byte low (omega (arith, high, len))),
       );
     }) c.read.ensures.way
+
+pub returns-in_err-told-clause-stands : goal.returns-in_err-told-clause-stands
+returns-in_err-told-clause-stands g c = not_given c.from_residual.result _ c.in_err-told.field-0.0 c.from_residual.ensures.1
+
+pub returns-in_err-told-clause-bytes : goal.returns-in_err-told-clause-bytes
+returns-in_err-told-clause-bytes g c = not_given c.from_residual.result _ c.in_err-told.field-0.0 c.from_residual.ensures.1
+
+pub returns-in_err-told-clause-reads : goal.returns-in_err-told-clause-reads
+returns-in_err-told-clause-reads g c = not_given c.from_residual.result _ c.in_err-told.field-0.0 c.from_residual.ensures.1
+
+pub returns-in_err-told-clause-kept : goal.returns-in_err-told-clause-kept
+returns-in_err-told-clause-kept g c = c.find_reading.ensures.kept
+
+pub returns-in_err-told-clause-cause : goal.returns-in_err-told-clause-cause
+returns-in_err-told-clause-cause g c = cause_here (g.V.Ground.faults c.args.volume.now) (g.V.Ground.faults c.find_reading.new.volume) c.from_residual.result c.in_err-told.field-0.0 c.from_residual.ensures.1 c.in_err-told.ensures.cause
+
+pub returns-in_err-found-clause-stands : goal.returns-in_err-found-clause-stands
+returns-in_err-found-clause-stands g c = not_given c.from_residual-in_err-found.result _ c.in_err-found.field-0.0 c.from_residual-in_err-found.ensures.1
+
+pub returns-in_err-found-clause-bytes : goal.returns-in_err-found-clause-bytes
+returns-in_err-found-clause-bytes g c = not_given c.from_residual-in_err-found.result _ c.in_err-found.field-0.0 c.from_residual-in_err-found.ensures.1
+
+pub returns-in_err-found-clause-reads : goal.returns-in_err-found-clause-reads
+returns-in_err-found-clause-reads g c = not_given c.from_residual-in_err-found.result _ c.in_err-found.field-0.0 c.from_residual-in_err-found.ensures.1
+
+pub returns-in_err-found-clause-kept : goal.returns-in_err-found-clause-kept
+returns-in_err-found-clause-kept g c = c.find_reading.ensures.kept
+
+pub returns-in_err-found-clause-cause : goal.returns-in_err-found-clause-cause
+returns-in_err-found-clause-cause g c = cause_here (g.V.Ground.faults c.args.volume.now) (g.V.Ground.faults c.find_reading.new.volume) c.from_residual-in_err-found.result c.in_err-found.field-0.0 c.from_residual-in_err-found.ensures.1 (c.in_err-found.ensures.cause (g.V.Ground.faults c.args.volume.now) (g.V.Ground.faults c.find_reading.new.volume))
+
+pub returns-in_err-check-clause-stands : goal.returns-in_err-check-clause-stands
+returns-in_err-check-clause-stands g c = not_given c.from_residual-in_err-check.result _ c.in_err-check.field-0.0 c.from_residual-in_err-check.ensures.1
+
+pub returns-in_err-check-clause-bytes : goal.returns-in_err-check-clause-bytes
+returns-in_err-check-clause-bytes g c = not_given c.from_residual-in_err-check.result _ c.in_err-check.field-0.0 c.from_residual-in_err-check.ensures.1
+
+pub returns-in_err-check-clause-reads : goal.returns-in_err-check-clause-reads
+returns-in_err-check-clause-reads g c = not_given c.from_residual-in_err-check.result _ c.in_err-check.field-0.0 c.from_residual-in_err-check.ensures.1
+
+pub returns-in_err-check-clause-kept : goal.returns-in_err-check-clause-kept
+returns-in_err-check-clause-kept g c = c.find_reading.ensures.kept
+
+pub returns-in_err-check-clause-cause : goal.returns-in_err-check-clause-cause
+returns-in_err-check-clause-cause g c = cause_here (g.V.Ground.faults c.args.volume.now) (g.V.Ground.faults c.find_reading.new.volume) c.from_residual-in_err-check.result c.in_err-check.field-0.0 c.from_residual-in_err-check.ensures.1 (c.in_err-check.ensures.cause (g.V.Ground.faults c.args.volume.now) (g.V.Ground.faults c.find_reading.new.volume))
+
+pub returns-in-None-clause-stands : goal.returns-in-None-clause-stands
+returns-in-None-clause-stands g c = at_some c.in_ok-told.told c.in_ok-found.found _ c.in_ok-found.ensures.some c.in_ok-told.ensures.stands
+
+pub returns-in-None-clause-sound : goal.returns-in-None-clause-sound
+returns-in-None-clause-sound g c = tt
+
+pub returns-in-None-clause-fault : goal.returns-in-None-clause-fault
+returns-in-None-clause-fault g c = tt
+
+pub returns-in-None-clause-kept : goal.returns-in-None-clause-kept
+returns-in-None-clause-kept g c = c.find_reading.ensures.kept
+
+pub returns-in-None-clause-cause : goal.returns-in-None-clause-cause
+returns-in-None-clause-cause g c = tt
+
+pub returns-in-Some-clause-stands : goal.returns-in-Some-clause-stands
+returns-in-Some-clause-stands g c = ok_of c.read.result _ (at_some c.in_ok-told.told c.in_ok-found.found _ c.in_ok-found.ensures.some c.in_ok-told.ensures.stands)
+
+pub returns-in-Some-clause-kept : goal.returns-in-Some-clause-kept
+returns-in-Some-clause-kept g c = keeps_on g.V.Ground c.args.volume.now c.find_reading.new.volume c.read.new.blocks c.find_reading.ensures.kept c.read.ensures.kept
+
+pub returns-in-Some-clause-cause : goal.returns-in-Some-clause-cause
+returns-in-Some-clause-cause g c = cause_of g.V.Ground c.args.volume.now c.find_reading.new.volume c.find_reading.ensures.kept.leads c.read.new.blocks c.read.result c.read.ensures.cause
+
+pub find_reading-requires : goal.find_reading-requires
+find_reading-requires g c = c.requires
+
+pub read-requires-clause-ready : goal.read-requires-clause-ready
+read-requires-clause-ready g c = g.V.Ground.leads_ready c.args.volume.now c.find_reading.new.volume c.find_reading.ensures.kept.leads c.requires
+
+pub read-requires-clause-root : goal.read-requires-clause-root
+read-requires-clause-root g c =
+    subst (λ (y : Geometry). IsRootFor y c.in-Some.root) (sym (g.V.Ground.leads_geometry c.args.volume.now c.find_reading.new.volume c.find_reading.ensures.kept.leads)) (at_some c.in_ok-found.found.root c.in-Some.root _ c.in-Some.is (at_some c.in_ok-told.told c.in_ok-found.found _ c.in_ok-found.ensures.some c.in_ok-told.ensures.root))
+
+pub read-requires-clause-range : goal.read-requires-clause-range
+read-requires-clause-range g c =
+    omega (arith, c.is_inside.ensures.0 c.in_ok-check.ensures.holds, at_some c.in_ok-found.found.root c.in-Some.root _ c.in-Some.is (at_some c.in_ok-told.told c.in_ok-found.found _ c.in_ok-found.ensures.some c.in_ok-told.ensures.large))

@@ -1,5 +1,5 @@
 use Rattle.std.proofs.Common.{◌≤◌, ◌+◌, length, subst, sym, arith}
-use Rattle.std.proofs.lemmas.Result.{IfOk-weaker}
+use Rattle.std.proofs.lemmas.Result.{IfOk-weaker, IfErr-weaker}
 use Rattle.ex_base.specs.declared.names.Area.TheVariants.{Page, Segment}
 use Rattle.ex_base.proofs.Results.{on_ok_both}
 use Rattle.ex_base.proofs.Geometries.{each_area}
@@ -55,3 +55,99 @@ returns-in-Replace-clause-shape g c = IfOk-weaker c.replace.result _ _ (λ made 
 pub returns-in-Delete-clause-shape : goal.returns-in-Delete-clause-shape
 returns-in-Delete-clause-shape g c = IfOk-weaker c.delete.result _ _ (λ made spells told bytes was used.
     subst (λ (e : Edit). IsTreeShape (g.V.Ground.geometry c.args.volume.now) (change_of e) (root_shape (g.V.Ground.unit c.args.volume.now) c.args.root.now) (root_shape (g.V.Ground.unit c.delete.new.blocks) made)) (sym c.in-Delete.is) tt) c.delete.ensures.spells
+
+pub returns-in-Insert-clause-extends : goal.returns-in-Insert-clause-extends
+returns-in-Insert-clause-extends g c = c.insert.ensures.extends
+
+pub returns-in-Insert-clause-turned : goal.returns-in-Insert-clause-turned
+returns-in-Insert-clause-turned g c = c.insert.ensures.units
+
+pub returns-in-Insert-clause-sound : goal.returns-in-Insert-clause-sound
+returns-in-Insert-clause-sound g c = IfErr-weaker c.insert.result _ _ (λ fault never damage told whole. never told whole damage) c.insert.ensures.sound
+
+pub returns-in-Insert-clause-fault : goal.returns-in-Insert-clause-fault
+returns-in-Insert-clause-fault g c = c.insert.ensures.fault
+
+pub returns-in-Insert-clause-leads : goal.returns-in-Insert-clause-leads
+returns-in-Insert-clause-leads g c = c.insert.ensures.leads
+
+pub returns-in-Insert-clause-cause : goal.returns-in-Insert-clause-cause
+returns-in-Insert-clause-cause g c = c.insert.ensures.cause
+
+pub insert-requires-clause-ready : goal.insert-requires-clause-ready
+insert-requires-clause-ready g c = c.requires.ready
+
+pub insert-requires-clause-root : goal.insert-requires-clause-root
+insert-requires-clause-root g c = c.requires.root
+
+pub returns-in-Append-clause-extends : goal.returns-in-Append-clause-extends
+returns-in-Append-clause-extends g c = c.append.ensures.extends
+
+pub returns-in-Append-clause-turned : goal.returns-in-Append-clause-turned
+returns-in-Append-clause-turned g c = c.append.ensures.units
+
+pub returns-in-Append-clause-sound : goal.returns-in-Append-clause-sound
+returns-in-Append-clause-sound g c = IfErr-weaker c.append.result _ _ (λ fault never damage told whole. never told whole damage) c.append.ensures.sound
+
+pub returns-in-Append-clause-fault : goal.returns-in-Append-clause-fault
+returns-in-Append-clause-fault g c = c.append.ensures.fault
+
+pub returns-in-Append-clause-leads : goal.returns-in-Append-clause-leads
+returns-in-Append-clause-leads g c = c.append.ensures.leads
+
+pub returns-in-Append-clause-cause : goal.returns-in-Append-clause-cause
+returns-in-Append-clause-cause g c = c.append.ensures.cause
+
+pub append-requires-clause-ready : goal.append-requires-clause-ready
+append-requires-clause-ready g c = c.requires.ready
+
+pub append-requires-clause-root : goal.append-requires-clause-root
+append-requires-clause-root g c = c.requires.root
+
+pub returns-in-Replace-clause-extends : goal.returns-in-Replace-clause-extends
+returns-in-Replace-clause-extends g c = c.replace.ensures.extends
+
+pub returns-in-Replace-clause-turned : goal.returns-in-Replace-clause-turned
+returns-in-Replace-clause-turned g c = c.replace.ensures.units
+
+pub returns-in-Replace-clause-sound : goal.returns-in-Replace-clause-sound
+returns-in-Replace-clause-sound g c = IfErr-weaker c.replace.result _ _ (λ fault never damage told whole. never told whole damage) c.replace.ensures.sound
+
+pub returns-in-Replace-clause-fault : goal.returns-in-Replace-clause-fault
+returns-in-Replace-clause-fault g c = c.replace.ensures.fault
+
+pub returns-in-Replace-clause-leads : goal.returns-in-Replace-clause-leads
+returns-in-Replace-clause-leads g c = c.replace.ensures.leads
+
+pub returns-in-Replace-clause-cause : goal.returns-in-Replace-clause-cause
+returns-in-Replace-clause-cause g c = c.replace.ensures.cause
+
+pub replace-requires-clause-ready : goal.replace-requires-clause-ready
+replace-requires-clause-ready g c = c.requires.ready
+
+pub replace-requires-clause-root : goal.replace-requires-clause-root
+replace-requires-clause-root g c = c.requires.root
+
+pub returns-in-Delete-clause-extends : goal.returns-in-Delete-clause-extends
+returns-in-Delete-clause-extends g c = c.delete.ensures.extends
+
+pub returns-in-Delete-clause-turned : goal.returns-in-Delete-clause-turned
+returns-in-Delete-clause-turned g c = c.delete.ensures.units
+
+pub returns-in-Delete-clause-sound : goal.returns-in-Delete-clause-sound
+returns-in-Delete-clause-sound g c = IfErr-weaker c.delete.result _ _ (λ fault never damage told whole. never told whole damage) c.delete.ensures.sound
+
+pub returns-in-Delete-clause-fault : goal.returns-in-Delete-clause-fault
+returns-in-Delete-clause-fault g c = c.delete.ensures.fault
+
+pub returns-in-Delete-clause-leads : goal.returns-in-Delete-clause-leads
+returns-in-Delete-clause-leads g c = c.delete.ensures.leads
+
+pub returns-in-Delete-clause-cause : goal.returns-in-Delete-clause-cause
+returns-in-Delete-clause-cause g c = c.delete.ensures.cause
+
+pub delete-requires-clause-ready : goal.delete-requires-clause-ready
+delete-requires-clause-ready g c = c.requires.ready
+
+pub delete-requires-clause-root : goal.delete-requires-clause-root
+delete-requires-clause-root g c = c.requires.root

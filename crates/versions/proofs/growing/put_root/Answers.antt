@@ -6,6 +6,8 @@ use Rattle.trees.specs.Roots.{IsRootFor}
 use Rattle.versions.specs.Damage.{no_limits, no_place}
 use Rattle.versions.proofs.Faults.{place_put}
 use Rattle.versions.proofs.Puts.{root_record}
+use Rattle.ex_base.proofs.Handed.{not_given, cause_here}
+use Rattle.versions.proofs.Results.{ok_of}
 use Rattle.versions.proofs.growing.put_root.Goals as goal
 
 pub write_large-requires-clause-fits : goal.write_large-requires-clause-fits
@@ -37,3 +39,51 @@ returns-clause-put g c = on_ok_weaker c.check.result (λ holds told index was ha
 
 pub returns-in_err-done-clause-sound : goal.returns-in_err-done-clause-sound
 returns-in_err-done-clause-sound g c = if_err_handed c.from_residual-in_err-done.result _ _ c.from_residual-in_err-done.ensures.1 (λ damage told index was has long for placed. c.in_err-done.ensures.sound damage told index was has)
+
+pub returns-in_err-check_root-clause-put : goal.returns-in_err-check_root-clause-put
+returns-in_err-check_root-clause-put g c = not_given c.from_residual.result _ c.in_err-check_root.field-0.0 c.from_residual.ensures.1
+
+pub returns-in_err-check_root-clause-free : goal.returns-in_err-check_root-clause-free
+returns-in_err-check_root-clause-free g c = not_given c.from_residual.result _ c.in_err-check_root.field-0.0 c.from_residual.ensures.1
+
+pub returns-in_err-check_root-clause-touches : goal.returns-in_err-check_root-clause-touches
+returns-in_err-check_root-clause-touches g c = not_given c.from_residual.result _ c.in_err-check_root.field-0.0 c.from_residual.ensures.1
+
+pub returns-in_err-check_root-clause-leads : goal.returns-in_err-check_root-clause-leads
+returns-in_err-check_root-clause-leads g c = g.V.Ground.leads_refl c.args.volume.now
+
+pub returns-in_err-check_root-clause-cause : goal.returns-in_err-check_root-clause-cause
+returns-in_err-check_root-clause-cause g c = cause_here (g.V.Ground.faults c.args.volume.now) (g.V.Ground.faults c.args.volume.now) c.from_residual.result c.in_err-check_root.field-0.0 c.from_residual.ensures.1 (c.in_err-check_root.ensures.cause (g.V.Ground.faults c.args.volume.now) (g.V.Ground.faults c.args.volume.now))
+
+pub returns-in_err-check_root-clause-sound : goal.returns-in_err-check_root-clause-sound
+returns-in_err-check_root-clause-sound g c = if_err_handed c.from_residual.result _ _ c.from_residual.ensures.1 (λ damage told index was has long for placed. c.in_err-check_root.ensures.never (subst (λ (y : Geometry). IsRootFor y c.args.root.now) (sym c.geometry-geometry.ensures) for) placed)
+
+pub returns-in_err-done-clause-put : goal.returns-in_err-done-clause-put
+returns-in_err-done-clause-put g c = not_given c.from_residual-in_err-done.result _ c.in_err-done.field-0.0 c.from_residual-in_err-done.ensures.1
+
+pub returns-in_err-done-clause-free : goal.returns-in_err-done-clause-free
+returns-in_err-done-clause-free g c = not_given c.from_residual-in_err-done.result _ c.in_err-done.field-0.0 c.from_residual-in_err-done.ensures.1
+
+pub returns-in_err-done-clause-touches : goal.returns-in_err-done-clause-touches
+returns-in_err-done-clause-touches g c = not_given c.from_residual-in_err-done.result _ c.in_err-done.field-0.0 c.from_residual-in_err-done.ensures.1
+
+pub returns-in_err-done-clause-leads : goal.returns-in_err-done-clause-leads
+returns-in_err-done-clause-leads g c = c.change_body.ensures.leads
+
+pub returns-in_err-done-clause-cause : goal.returns-in_err-done-clause-cause
+returns-in_err-done-clause-cause g c = cause_here (g.V.Ground.faults c.args.volume.now) (g.V.Ground.faults c.change_body.new.pages) c.from_residual-in_err-done.result c.in_err-done.field-0.0 c.from_residual-in_err-done.ensures.1 c.in_err-done.ensures.cause
+
+pub returns-clause-free : goal.returns-clause-free
+returns-clause-free g c = ok_of c.check.result _ c.in_ok-done.ensures.free
+
+pub returns-clause-touches : goal.returns-clause-touches
+returns-clause-touches g c = ok_of c.check.result _ c.in_ok-done.ensures.touches
+
+pub returns-clause-leads : goal.returns-clause-leads
+returns-clause-leads g c = c.change_body.ensures.leads
+
+pub returns-clause-cause : goal.returns-clause-cause
+returns-clause-cause g c = c.check.ensures.cause (g.V.Ground.faults c.args.volume.now) (g.V.Ground.faults c.change_body.new.pages)
+
+pub change_body-requires-clause-ready : goal.change_body-requires-clause-ready
+change_body-requires-clause-ready g c = c.requires.ready

@@ -8,7 +8,7 @@ use Rattle.file_bodies.specs.Damage.{IsListedFault, IsLookFault, page_from}
 use Rattle.file_bodies.proofs.Blame.{carried}
 use Rattle.file_bodies.proofs.Moving.{kept_body}
 use Rattle.versions.specs.Damage.{IsStepFault, on_to, stepping, walking}
-use Rattle.ex_base.proofs.Keeping.{keeps_on}
+use Rattle.ex_base.proofs.Keeping.{keeps_on, cause_since}
 use Rattle.versions.proofs.RowsListed.{IsListed, gathers_oids, oids_in_row}
 use Rattle.versions.proofs.Listed.{ListedTo, comes_next, listed_none, told_b, file_b, done, first, stands, rises, readable, one_more, walked_out}
 use Rattle.versions.proofs.listing.list_file.Goals as goal
@@ -66,3 +66,42 @@ returns-in-Err-list_place-clause-fault g c = λ told. stepping c.places.after c.
 
 pub returns-in-Ok-None-clause-walk : goal.returns-in-Ok-None-clause-walk
 returns-in-Ok-None-clause-walk g c = λ told. walked_out g.V.Ground c.args.volume.now c.places.volume c.args.file_no c.places.after _ c.places.invariant.kept c.places.invariant.walked c.in-Ok-None.ensures.way c.in-Ok-None.field-0-is told
+
+pub returns-in-Ok-None-clause-sound : goal.returns-in-Ok-None-clause-sound
+returns-in-Ok-None-clause-sound g c = tt
+
+pub returns-in-Ok-None-clause-fault : goal.returns-in-Ok-None-clause-fault
+returns-in-Ok-None-clause-fault g c = tt
+
+pub returns-in-Ok-None-clause-cause : goal.returns-in-Ok-None-clause-cause
+returns-in-Ok-None-clause-cause g c = tt
+
+pub returns-in-Ok-None-clause-kept : goal.returns-in-Ok-None-clause-kept
+returns-in-Ok-None-clause-kept g c = keeps_on g.V.Ground c.args.volume.now c.places.volume c.next_place.new.pages c.places.invariant.kept c.next_place.ensures.kept
+
+pub returns-in-Err-clause-oids : goal.returns-in-Err-clause-oids
+returns-in-Err-clause-oids g c = tt
+
+pub returns-in-Err-clause-walk : goal.returns-in-Err-clause-walk
+returns-in-Err-clause-walk g c = tt
+
+pub returns-in-Err-clause-kept : goal.returns-in-Err-clause-kept
+returns-in-Err-clause-kept g c = keeps_on g.V.Ground c.args.volume.now c.places.volume c.next_place.new.pages c.places.invariant.kept c.next_place.ensures.kept
+
+pub returns-in-Err-clause-cause : goal.returns-in-Err-clause-cause
+returns-in-Err-clause-cause g c = cause_since (g.V.Ground.faults c.args.volume.now) (g.V.Ground.faults c.places.volume) (g.V.Ground.faults c.next_place.new.pages) c.in-Err.fault (g.V.Ground.leads_faults c.args.volume.now c.places.volume c.places.invariant.kept.leads) c.in-Err.ensures.cause
+
+pub returns-in-Err-list_place-clause-oids : goal.returns-in-Err-list_place-clause-oids
+returns-in-Err-list_place-clause-oids g c = tt
+
+pub returns-in-Err-list_place-clause-walk : goal.returns-in-Err-list_place-clause-walk
+returns-in-Err-list_place-clause-walk g c = tt
+
+pub returns-in-Err-list_place-clause-kept : goal.returns-in-Err-list_place-clause-kept
+returns-in-Err-list_place-clause-kept g c = keeps_on g.V.Ground c.args.volume.now c.next_place.new.pages c.list_place.new.volume (keeps_on g.V.Ground c.args.volume.now c.places.volume c.next_place.new.pages c.places.invariant.kept c.next_place.ensures.kept) c.list_place.ensures.kept
+
+pub returns-in-Err-list_place-clause-cause : goal.returns-in-Err-list_place-clause-cause
+returns-in-Err-list_place-clause-cause g c = cause_since (g.V.Ground.faults c.args.volume.now) (g.V.Ground.faults c.next_place.new.pages) (g.V.Ground.faults c.list_place.new.volume) c.in-Err-list_place.fault (g.V.Ground.leads_faults c.args.volume.now c.next_place.new.pages (keeps_on g.V.Ground c.args.volume.now c.places.volume c.next_place.new.pages c.places.invariant.kept c.next_place.ensures.kept).leads) c.in-Err-list_place.ensures.cause
+
+pub list_place-requires : goal.list_place-requires
+list_place-requires g c = g.V.Ground.leads_ready c.args.volume.now c.next_place.new.pages (keeps_on g.V.Ground c.args.volume.now c.places.volume c.next_place.new.pages c.places.invariant.kept c.next_place.ensures.kept).leads c.requires

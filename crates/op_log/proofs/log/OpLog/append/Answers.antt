@@ -10,6 +10,8 @@ use Rattle.op_log.specs.Gates.{has_log}
 use Rattle.op_log.specs.State.{LogState, Prolongs}
 use Rattle.op_log.proofs.Moments.{long_of, spelled, keeps_settled, settled_says}
 use Rattle.op_log.proofs.log.OpLog.append.Given as given
+use Rattle.ex_base.proofs.Handed.{not_given}
+use Rattle.op_log.proofs.Outcomes.{err_of}
 use Rattle.op_log.proofs.log.OpLog.append.Goals as goal
 use Rattle.op_log.proofs.log.OpLog.append.Goals.{After-write_record}
 
@@ -80,3 +82,42 @@ returns-clause-after g c rs prolongs keeps x here =
     let adds = adding g (goal.at.returns-clause-after g c).After-write_record rs prolongs in
     let says = c.in_ok-write_record.ensures.says c.args.self.now.geometry rs c.args.item.now adds (has_log c.args.self.now.geometry (g.D.World.outside c.args.disk.now) c.requires.room) keeps.on_disk in
     settled_says (g.D.World.outside c.write_record.new.disk) x says (c.in_ok-write_record.ensures.settled keeps.honest) here
+
+pub returns-in_err-write_record-clause-four : goal.returns-in_err-write_record-clause-four
+returns-in_err-write_record-clause-four g c = not_given c.from_residual.result _ _ c.from_residual.ensures.1
+
+pub returns-in_err-write_record-clause-counts : goal.returns-in_err-write_record-clause-counts
+returns-in_err-write_record-clause-counts g c = not_given c.from_residual.result _ _ c.from_residual.ensures.1
+
+pub returns-in_err-write_record-clause-says : goal.returns-in_err-write_record-clause-says
+returns-in_err-write_record-clause-says g c = not_given c.from_residual.result _ _ c.from_residual.ensures.1
+
+pub returns-in_err-write_record-clause-keeps : goal.returns-in_err-write_record-clause-keeps
+returns-in_err-write_record-clause-keeps g c = not_given c.from_residual.result _ _ c.from_residual.ensures.1
+
+pub returns-in_err-write_record-clause-after : goal.returns-in_err-write_record-clause-after
+returns-in_err-write_record-clause-after g c = not_given c.from_residual.result _ _ c.from_residual.ensures.1
+
+pub returns-in_err-write_record-clause-settled : goal.returns-in_err-write_record-clause-settled
+returns-in_err-write_record-clause-settled g c = not_given c.from_residual.result _ _ c.from_residual.ensures.1
+
+pub returns-in_err-write_record-clause-cause : goal.returns-in_err-write_record-clause-cause
+returns-in_err-write_record-clause-cause g c = err_of c.from_residual.result _ c.in_err-write_record.ensures.cause
+
+pub returns-in_err-write_record-clause-at_most_four : goal.returns-in_err-write_record-clause-at_most_four
+returns-in_err-write_record-clause-at_most_four g c = c.write_record.ensures.at_most_four
+
+pub returns-clause-cause : goal.returns-clause-cause
+returns-clause-cause g c = tt
+
+pub returns-clause-failed : goal.returns-clause-failed
+returns-clause-failed g c = tt
+
+pub returns-clause-at_most_four : goal.returns-clause-at_most_four
+returns-clause-at_most_four g c = c.write_record.ensures.at_most_four
+
+pub returns-clause-four : goal.returns-clause-four
+returns-clause-four g c = c.in_ok-write_record.ensures.four
+
+pub returns-clause-settled : goal.returns-clause-settled
+returns-clause-settled g c = c.in_ok-write_record.ensures.settled
