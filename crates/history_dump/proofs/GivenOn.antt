@@ -1,5 +1,5 @@
 -- What the loop that gives the bytes of a stream keeps.
-use Rattle.std.proofs.Common.{◌≡◌, ◌≤◌, ◌+◌, ℕ, zero, suc, true, List, [], ◌∷◌, ◌++◌, length, take, drop, Result, Ok, refl, sym, subst, ap, ◌∙◌, arith}
+use Rattle.std.proofs.Common.{◌≡◌, ◌≤◌, ◌+◌, ◌-◌, ℕ, zero, suc, true, List, [], ◌∷◌, ◌++◌, length, take, drop, Result, Ok, refl, sym, subst, ap, ◌∙◌, arith}
 use Rattle.std.proofs.lemmas.List.{drop-drop, drop-take, length-take, take-append-drop, take-append-le}
 use Rattle.std.proofs.Math.Seq.{take-append-add}
 use Rattle.ex_base.specs.declared.ground.Ground as ground
@@ -43,6 +43,14 @@ pub piece_taken : (a n : ℕ) (xs ys rest : List ℕ) → a ≤ length xs → n 
 piece_taken a n xs ys rest le few =
     let len : a + n ≡ length (take a xs) + n = omega (arith, length-take a xs, le) in
     ap (λ (k : ℕ). take k (take a xs ++ (ys ++ rest))) len ∙ take-append-add (take a xs) (ys ++ rest) n ∙ ap (λ (zs : List ℕ). take a xs ++ zs) (take-append-le n ys rest few)
+
+-- of what is left of an item, a front
+pub front_left : (xs : List ℕ) (given end n : ℕ) → n ≤ end - given → given ≤ end → take (given + n - given) (drop given xs) ≡ take n (drop given (take end xs))
+front_left xs given end n few le =
+    let all : given + (end - given) ≡ end = omega (arith, le) in
+    let len : given + n - given ≡ n = omega arith in
+    ap (λ (k : ℕ). take k (drop given xs)) len ∙ sym (take_front n (end - given) (drop given xs) few)
+    ∙ ap (take n) (sym (drop-take given (end - given) xs) ∙ ap (λ (k : ℕ). drop given (take k xs)) all)
 
 pub end_none : (g : Geometry) (h : History) (p : Position) → is_end p ≡ true → stream_from g h p ≡ []
 end_none g h Head e = absurd (cc)

@@ -17,4 +17,5 @@ pub mod Listing
 pub mod Results
 pub mod NodesRead
 pub mod Faults
+pub mod LeavesPut
 pub mod Pieces

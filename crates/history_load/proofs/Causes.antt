@@ -2,12 +2,20 @@
 use Rattle.std.proofs.Common.{◌≡◌, ◌≤◌, Result, Ok, Err, refl, sym, subst, arith}
 use Rattle.std.specs.Prelude.{IfErr}
 use Rattle.std.specs.Result.{IsErrAnd}
-use Rattle.disk_model.specs.Outside.{Outside}
+use Rattle.disk_model.specs.Outside.{Outside, Rose}
+use Rattle.ex_base.specs.Ports.{Cause, IsDamage}
+use Rattle.ex_base.specs.declared.faults.PortFault.{PortFault}
+use Rattle.ex_base.specs.declared.faults.PortFault.TheVariants.{Damaged, Disk as PortDisk, Memory as PortMemory}
+use Rattle.commits.specs.declared.keep.CommitFault.{CommitFault}
+use Rattle.commits.specs.declared.keep.CommitFault.TheVariants.{Memory as CommitMemory, Disk as CommitDisk}
 use Rattle.history_writes.specs.declared.rows.LinkFault.{LinkFault}
 use Rattle.history_writes.specs.declared.rows.LinkFault.TheVariants.{Bad as LinkBad, Disk as LinkDisk}
+use Rattle.history_reads.specs.declared.heads.HeadFault.{HeadFault}
 use Rattle.history_reads.specs.declared.progress.ReadFault.{ReadFault}
 use Rattle.history_reads.specs.declared.progress.ReadFault.TheVariants.{Memory as NoMemory, Refused}
-use Rattle.history_load.specs.Faults.{IsOfStream, LoadCause, WhereBad, fault_of_link, fault_of_read}
+use Rattle.history_load.specs.Faults.{IsOfStream, LoadCause, WhereBad, fault_of_commit, fault_of_finish, fault_of_link, fault_of_port, fault_of_read}
+use Rattle.history_load.specs.declared.ending.FinishFault.{FinishFault}
+use Rattle.history_load.specs.declared.ending.FinishFault.TheVariants.{Bad as FinishBad, Disk as FinishDisk, Memory as FinishMemory}
 use Rattle.history_load.specs.declared.faults.LoadFault.{LoadFault}
 use Rattle.history_load.specs.declared.faults.LoadFault.TheVariants.{Disk, Memory, Source, Stream}
 
@@ -42,3 +50,51 @@ pub read_bad : (r : Result (Unit {0}) LoadFault) (was : ReadFault) (X : Type 0) 
 read_bad (Ok x) was X is none = tt
 read_bad (Err fault) NoMemory X is none = subst (WhereBad X) (sym is) tt
 read_bad (Err fault) Refused X is none = subst (WhereBad X) (sym is) (refl, none refl)
+
+-- ---- the cause of what is handed on, by the fault that it was
+
+pub read_cause : (a b : Outside) (was : ReadFault) → LoadCause a b (fault_of_read was)
+read_cause a b NoMemory = tt
+read_cause a b Refused = tt
+
+pub port_cause : (a b : Outside) (was : PortFault) → Cause a.disk_faults b.disk_faults was → LoadCause a b (fault_of_port was)
+port_cause a b PortDisk cause = cause
+port_cause a b PortMemory cause = tt
+port_cause a b (Damaged page want got) cause = tt
+
+pub link_cause : (a b : Outside) (was : LinkFault) → (was ≡ LinkDisk → Rose a.disk_faults b.disk_faults) → LoadCause a b (fault_of_link was)
+link_cause a b LinkDisk rose = rose refl
+link_cause a b LinkBad rose = tt
+
+pub finish_cause : (a b : Outside) (was : FinishFault) → (was ≡ FinishDisk → Rose a.disk_faults b.disk_faults) → LoadCause a b (fault_of_finish was)
+finish_cause a b FinishMemory rose = tt
+finish_cause a b FinishDisk rose = rose refl
+finish_cause a b FinishBad rose = tt
+
+pub commit_cause : (a b : Outside) (was : CommitFault) → (was ≡ CommitDisk → Rose a.disk_faults b.disk_faults) → LoadCause a b (fault_of_commit was)
+commit_cause a b CommitMemory rose = tt
+commit_cause a b CommitDisk rose = rose refl
+
+-- ---- what isn't of the stream
+
+pub port_no_stream : (was : PortFault) → (IsDamage was → ⊥) → IsOfStream (fault_of_port was) → ⊥
+port_no_stream PortDisk none of = of
+port_no_stream PortMemory none of = of
+port_no_stream (Damaged page want got) none of = none tt
+
+pub source_no_stream : {X : Type 0} (r : Result X LoadFault) (was : LoadFault) (fault : HeadFault) → IsErrAnd r (λ f. f ≡ was) → was ≡ Source → r ≡ Err (Stream fault) → ⊥
+source_no_stream (Ok x) was fault is source e = is
+source_no_stream (Err f) was fault is source e = let no : Source ≡ Stream fault = cc in cc
+
+pub memory_no_stream : {X : Type 0} (r : Result X LoadFault) (fault : HeadFault) → IsErrAnd r (λ f. f ≡ Memory) → r ≡ Err (Stream fault) → ⊥
+memory_no_stream (Ok x) fault is e = is
+memory_no_stream (Err f) fault is e = let no : Memory ≡ Stream fault = cc in cc
+
+pub disk_no_stream : {X : Type 0} (r : Result X LoadFault) (fault : HeadFault) → IsErrAnd r (λ f. f ≡ Disk) → r ≡ Err (Stream fault) → ⊥
+disk_no_stream (Ok x) fault is e = is
+disk_no_stream (Err f) fault is e = let no : Disk ≡ Stream fault = cc in cc
+
+-- ---- the fault of a stream
+
+pub stream_same : (a b : HeadFault) → Stream a ≡ Stream b → a ≡ b
+stream_same a b is = cc

@@ -1,5 +1,5 @@
 -- What stops the end of a load: its test, or its commit.
-use Rattle.std.proofs.Common.{◌≡◌, Result, Ok, Err, refl, subst}
+use Rattle.std.proofs.Common.{◌≡◌, Result, Ok, Err, refl, subst, sym}
 use Rattle.std.specs.Prelude.{IfErr}
 use Rattle.std.specs.Result.{IsErrAnd}
 use Rattle.commits.specs.declared.keep.CommitFault.{CommitFault}
@@ -30,3 +30,22 @@ pub commit_no_stream : {X : Type 0} (r : Result X LoadFault) (was : CommitFault)
 commit_no_stream (Ok x) was fault is e = absurd is
 commit_no_stream (Err f) CommitMemory fault is e = absurd (let no : Memory ≡ Stream fault = cc in cc)
 commit_no_stream (Err f) CommitDisk fault is e = absurd (let no : Disk ≡ Stream fault = cc in cc)
+
+-- ---- a test ends in one way alone
+
+abbrev pub is_of_disk : FinishFault → Type 0
+is_of_disk FinishMemory = ⊥
+is_of_disk FinishDisk = Unit {0}
+is_of_disk FinishBad = ⊥
+
+abbrev pub is_of_test : FinishFault → Type 0
+is_of_test FinishMemory = ⊥
+is_of_test FinishDisk = ⊥
+is_of_test FinishBad = Unit {0}
+
+-- Where it ends by the disk it is of the disk, and where it is bad it is of the test: nothing else is one of these.
+pub ends_by_disk : (r : Result (Unit {0}) FinishFault) → r ≡ Err FinishDisk → IsErrAnd r is_of_disk
+ends_by_disk r is = subst (λ (s : Result (Unit {0}) FinishFault). IsErrAnd s is_of_disk) (sym is) tt
+
+pub ends_bad : (r : Result (Unit {0}) FinishFault) → r ≡ Err FinishBad → IsErrAnd r is_of_test
+ends_bad r is = subst (λ (s : Result (Unit {0}) FinishFault). IsErrAnd s is_of_test) (sym is) tt

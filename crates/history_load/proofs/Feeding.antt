@@ -1,5 +1,5 @@
 -- The bytes of a source that a loader is fed.
-use Rattle.std.proofs.Common.{◌≡◌, ◌≤◌, ◌+◌, ◌-◌, ◌∙◌, ℕ, List, [], ◌++◌, Some, Result, Ok, Err, append_assoc, append-nil, drop, length, length-drop, take, refl, sym, ap, subst, arith}
+use Rattle.std.proofs.Common.{◌≡◌, ◌≤◌, ◌+◌, ◌∙◌, ℕ, List, [], ◌++◌, Some, Result, Ok, Err, append_assoc, append-nil, drop, length, length-drop, take, refl, sym, ap, subst, arith}
 use Rattle.std.proofs.lemmas.List.{drop-drop, drop_at, length-append, length-take, take-append-drop, take_at, take-append-le, take_all}
 use Rattle.std.proofs.Math.Seq.{take-add}
 use Rattle.std.specs.Result.{IsErrAnd}
@@ -7,7 +7,7 @@ use Rattle.ex_base.specs.declared.geometry.Geometry.{Geometry}
 use Rattle.ex_base.specs.Sizes.{leaf_bytes}
 use Rattle.disk_model.specs.Outside.{DiskOnly, Goes, Outside, SourceOnly}
 use Rattle.disk_model.specs.Runs.{adds_refl, adds_trans, adds_wider, goes_refl, goes_trans, honest_on}
-use Rattle.history_fronts.specs.Fronts.{Front, spelled}
+use Rattle.history_fronts.specs.Fronts.{Front}
 use Rattle.history_items.specs.Heads.{stream_head}
 use Rattle.history_items.specs.declared.head.Head.{Head}
 use Rattle.history_load.specs.Faults.{WhereBad}

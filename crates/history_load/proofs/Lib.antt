@@ -38,6 +38,7 @@ pub mod Beginning
 pub mod Facts
 pub mod Making
 pub mod Causes
+pub mod EndedBy
 pub mod Pieces
 pub mod Wholeness
 pub mod Verdicts

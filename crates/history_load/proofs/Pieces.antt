@@ -1,5 +1,5 @@
 -- A leaf or a node that was taken.
-use Rattle.std.proofs.Common.{◌≡◌, ◌<◌, ◌≤◌, ◌+◌, ◌-◌, ℕ, zero, suc, Bool, true, false, nat_lt, List, [], ◌∷◌, ◌++◌, length, map, drop, take, Option, Some, None, refl, sym, ap, subst, ◌∙◌, add-one, arith}
+use Rattle.std.proofs.Common.{◌≡◌, ◌<◌, ◌≤◌, ◌+◌, ◌*◌, ◌-◌, ℕ, zero, suc, Bool, true, false, nat_lt, List, [], ◌∷◌, ◌++◌, length, map, drop, take, Option, Some, None, refl, sym, ap, subst, ◌∙◌, add-one, arith}
 use Rattle.std.specs.List.{AllZip, flat_map, zip}
 use Rattle.std.specs.Prelude.{if◌then◌else◌}
 use Rattle.std.proofs.lemmas.Bool.{ltb-false}
@@ -24,8 +24,9 @@ use Rattle.history_counts.specs.Pages.{pages_by}
 use Rattle.history_counts.specs.declared.page_needs.PageNeeds.{PageNeeds}
 use Rattle.history_fronts.specs.declared.turns.Turn.{Turn}
 use Rattle.history_fronts.specs.declared.turns.Turn.TheVariants.{Leaf as LeafTurn, Node as NodeTurn}
+use Rattle.ex_base.specs.Fields.{number_at}
 use Rattle.history_fronts.specs.Fronts.{ALeaf, ANode, FitsTurn, Front, Item, after, files_of, history_of, one_of, spelled, turn_of}
-use Rattle.history_fronts.specs.Readings.{IsReadTo}
+use Rattle.history_fronts.specs.Readings.{IsReadTo, need_at}
 use Rattle.history_fronts.proofs.TurnItems.{leaf_of_turn}
 use Rattle.history_items.specs.Heads.{stream_head}
 use Rattle.history_items.specs.declared.head.Head.{Head}
@@ -35,12 +36,12 @@ use Rattle.history_model.specs.Stream.{StreamHead, lack_of, leaf_item}
 use Rattle.history_reads.specs.Kept.{AreOfOneStream, Keeps}
 use Rattle.history_reads.specs.Reads.{HasItem, IsRead, turn_now}
 use Rattle.history_reads.specs.declared.progress.Progress.{Progress}
-use Rattle.history_reads.proofs.Items.{node_named}
+use Rattle.history_reads.proofs.Items.{node_named, node_whole}
 use Rattle.history_items.specs.Reads.{node_read}
 use Rattle.history_writes.specs.Files.{AreFilesOn}
 use Rattle.history_writes.specs.Pieces.{ArePiecesOn}
 use Rattle.history_load.specs.AtHand.{IsReady}
-use Rattle.history_load.specs.Loading.{HasFileIf, HasWholeItem, IsLoader, IsNextWithin, LoadsItem, StandTo, name_in, page_behind}
+use Rattle.history_load.specs.Loading.{HasFileIf, HasWholeItem, IsLoader, IsNextWithin, LoadsItem, StandTo, TakesItem, name_in, page_behind}
 use Rattle.history_load.specs.declared.files_at_hand.FilesAtHand.{FilesAtHand}
 use Rattle.history_load.specs.declared.loader.Loader.{Loader}
 use Rattle.history_load.proofs.Facts.{reached, says_front, turn_is}
@@ -119,6 +120,12 @@ pub record NodeIs (g : Geometry) (held : List ℕ) (f k : Front) (was now : Prog
   pub number : now.nodes ≡ suc (length f.nodes)
   pub more : length f.nodes < f.head.nodes
   pub piece : PieceIs f k was now (ANode (node_read held))
+
+-- All its pairs came.
+pub node_long : (g : Geometry) (joined : List ℕ) (p : Progress) (held : List ℕ) → HasItem g joined p held → turn_now p ≡ NodeTurn → (3 ≤ length held) × (3 + 12 * number_at 2 held 1 ≡ length held)
+node_long g joined p held has at =
+    let turn = turn_is g joined p held NodeTurn at has in
+    node_whole g has.front.head.leaves (length has.front.nodes) held (ap (λ (t : Turn). need_at g has.front.head.leaves (length has.front.nodes) t held) (sym turn) ∙ has.whole)
 
 pub node_is : (g : Geometry) (joined : List ℕ) (was now : Progress) (held : List ℕ) (has : HasItem g joined was held) (read : IsRead g joined now []) → turn_now was ≡ NodeTurn → NodeIs g held has.front read.front was now
 node_is g joined was now held has read at =
@@ -254,7 +261,7 @@ next_within g first next now_next was now before behind needs same within =
     let zero_now : now_next ≤ first + pages_by now.needs = subst (λ (n : PageNeeds). now_next ≤ first + pages_by n) (sym needs) (subst (λ (n : ℕ). n ≤ first + pages_by was.needs) (sym same) zero_was) in
     subst (λ (n : ℕ). IsNextWithin n first now_next now.needs) (sym behind) zero_now
 
-pub piece_loads : (g : Geometry) (a b : Outside) (old new : Loader) (item : Item) → IsPieceTaken g a b old new item → LoadsItem g a b old new
+piece_loads : (g : Geometry) (a b : Outside) (old new : Loader) (item : Item) → IsPieceTaken g a b old new item → LoadsItem g a b old new
 piece_loads g a b old new item taken image joined honest holds before =
     let read = taken.reads g joined before.item in
     let is = taken.is joined before.item read in
@@ -270,7 +277,7 @@ piece_loads g a b old new item taken image joined honest holds before =
       },
     )
 
-pub piece_is : (g : Geometry) (a b : Outside) (old new : Loader) (item : Item) → HasWholeItem g old → IsPieceTaken g a b old new item → IsLoader g new
+piece_is : (g : Geometry) (a b : Outside) (old new : Loader) (item : Item) → HasWholeItem g old → IsPieceTaken g a b old new item → IsLoader g new
 piece_is g a b old new item whole taken =
     let read = taken.reads g whole.joined whole.item in
     let is = taken.is whole.joined whole.item read in
@@ -288,3 +295,6 @@ piece_is g a b old new item whole taken =
         count = omega (arith, whole.of.count, taken.count, is.missing, is.missing_was, is.files);
       };
     }
+
+pub piece_takes : (g : Geometry) (a b : Outside) (old new : Loader) (item : Item) → HasWholeItem g old → IsPieceTaken g a b old new item → TakesItem g a b old new
+piece_takes g a b old new item whole taken = record { loads = piece_loads g a b old new item taken; is = piece_is g a b old new item whole taken; stream = taken.stream }

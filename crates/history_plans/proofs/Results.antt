@@ -1,5 +1,5 @@
 -- Results and options that are known.
-use Rattle.std.proofs.Common.{◌≡◌, Result, Ok, Err, Option, Some, None, IfNone, OnOk, subst}
+use Rattle.std.proofs.Common.{◌≡◌, Result, Ok, Err, Option, None, IfNone, OnOk, subst}
 
 pub ok_given : {T E : Type 0} (P : Type 0) (r : Result T E) → P → OnOk r P
 ok_given P (Ok x) p = p

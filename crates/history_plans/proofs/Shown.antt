@@ -1,6 +1,5 @@
 -- A port whose working state is a volume: what is planned of it.
-use Rattle.std.proofs.Common.{◌≡◌, ◌≤◌, ◌<◌, ◌+◌, ◌*◌, ◌/◌, ◌^◌, ℕ, suc, List, [], ◌∷◌, length, map, refl, sym, subst, ap, ◌∙◌, arith, inl, inr}
-use Rattle.std.specs.Prelude.{Contains}
+use Rattle.std.proofs.Common.{◌≡◌, ◌≤◌, ◌<◌, ◌+◌, ◌*◌, ◌/◌, ◌^◌, ℕ, suc, List, [], ◌∷◌, length, map, refl, sym, subst, ap, ◌∙◌, arith}
 use Rattle.std.specs.List.{flat_map, AllByRecursion, AllZip, zip}
 use Rattle.std.proofs.lemmas.List.{length-append, length-map}
 use Rattle.std.proofs.lemmas.List.Sorted.{length_permutation}
@@ -11,7 +10,7 @@ use Rattle.ex_base.specs.declared.names.Root.{Root}
 use Rattle.ex_base.specs.Area.{InPageArea, NamesLeaf, catalog_no}
 use Rattle.ex_base.specs.Even.{sum_of}
 use Rattle.ex_base.specs.Ports.{Keeps}
-use Rattle.ex_base.specs.Sizes.{leaf_bytes, most_page}
+use Rattle.ex_base.specs.Sizes.{leaf_bytes}
 use Rattle.ex_base.proofs.Members.{contains_none}
 use Rattle.object_files.specs.Catalog.{CatalogOf, FileEntry, number_of}
 use Rattle.object_files.specs.Reads.{catalog_on}
@@ -22,8 +21,7 @@ use Rattle.trees.specs.Trees.{Units, RootNamed, RootSized}
 use Rattle.version_lists.specs.Sorted.{in_order}
 use Rattle.version_lists.proofs.Lists.{Has}
 use Rattle.version_lists.proofs.Sorted.{order_permutation}
-use Rattle.volume_model.specs.OwnersMoved.{volume_roots_most}
-use Rattle.volume_model.specs.Parts.{HasBalance, HasIndex, HoldsOf, content_parts}
+use Rattle.volume_model.specs.Parts.{HasBalance, HasIndex}
 use Rattle.volume_model.specs.Volume.{FileContent, Stored, Volume, roots_in, stored_in, unique_of}
 use Rattle.volume_model.proofs.Places.{Sep, each_has, has_each, sep_from, sep_parted, sep_to}
 use Rattle.volume_edits.specs.Ported.{HasContent, ShowsVolume, index_named, units_in}
@@ -32,9 +30,9 @@ use Rattle.volume_edits.proofs.Counted.{in_area}
 use Rattle.volume_edits.proofs.Frames.{past_area}
 use Rattle.history_model.specs.FilePages.{pages_filled, pages_for, record_size}
 use Rattle.history_model.specs.History.{History, HistoryFile, HistoryVersion}
-use Rattle.history_model.specs.Stream.{StreamHead, head_of}
+use Rattle.history_model.specs.Stream.{StreamHead}
 use Rattle.history_volumes.specs.Histories.{IsFileOn, IsHistoryOn, IsVersionOn, content_placed, leaf_pages, leaves_named, node_pages, roots_in_order}
-use Rattle.history_volumes.specs.Walks.{bytes_named, root_namings, root_nodes, unit_named}
+use Rattle.history_volumes.specs.Walks.{bytes_named, unit_named}
 use Rattle.volume_model.proofs.FewRoots.{few_stored_in}
 use Rattle.history_volumes.proofs.FileItems.{filled_most}
 use Rattle.history_volumes.proofs.Made.{has_history, units_are}
@@ -42,10 +40,10 @@ use Rattle.history_volumes.proofs.PieceItems.{leaves_few, nodes_few}
 use Rattle.history_volumes.proofs.Whole.{in_records}
 use Rattle.history_plans.specs.declared.catalog.Contents.{Contents}
 use Rattle.history_plans.specs.Files.{AreNamed, AreTrees, HasStored, IsContentsOf, pages_stored, roots_stored, size_stored}
-use Rattle.history_plans.specs.Pieces.{IsClosed, Leaves, LeavesRoots, PlannedPieces, ShowsPages}
+use Rattle.history_plans.specs.Pieces.{IsClosed, LeavesRoots, PlannedPieces, ShowsPages}
 use Rattle.history_plans.proofs.Roots.{all_stored_on}
 use Rattle.history_plans.proofs.Walking.{shows_on}
-use Rattle.history_plans.specs.Plans.{IsPlanOf, IsPlanned, PlansOf, StreamPlan, head_planned}
+use Rattle.history_plans.specs.Plans.{IsPlanned, PlansOf, StreamPlan}
 
 -- ---- how many pages a history needs
 

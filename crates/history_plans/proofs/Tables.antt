@@ -1,5 +1,5 @@
 -- Maps in order of insertion, as lists of leaves and nodes.
-use Rattle.std.proofs.Common.{◌≡◌, ◌≢◌, ℕ, zero, suc, max, Bool, true, false, eqb, List, [], ◌∷◌, ◌++◌, length, map, take, position, Option, Some, None, refl, sym, subst, ap, ◌∙◌, arith, inl, inr, nat_eq, nat_lt, ltb, ◌+◌, ◌≤◌, ◌<◌, true≢false}
+use Rattle.std.proofs.Common.{◌≡◌, ℕ, zero, suc, max, Bool, true, false, eqb, List, [], ◌∷◌, ◌++◌, length, map, take, position, Some, None, refl, sym, ap, ◌∙◌, arith, inl, inr, nat_eq, nat_lt, ltb, ◌+◌, true≢false}
 use Rattle.std.specs.Prelude.{slice_get, if◌then◌else◌, ◌==◌, ◌||◌, unwrap_or}
 use Rattle.std.specs.List.{list_any, position_or_len}
 use Rattle.std.specs.Map.{keys_of, lookup}
@@ -8,14 +8,13 @@ use Rattle.std.proofs.lemmas.Bool.{eqb-true, eq-eqb, ltb-true, ltb-false, lt-ltb
 use Rattle.std.proofs.lemmas.List.Recursion.{is_position_or_len}
 use Rattle.std.proofs.lemmas.Option.{none-some, same_Some}
 use Rattle.ex_base.specs.Ports.{times}
-use Rattle.ex_base.proofs.Counts.{times_here, times_apart}
 use Rattle.indexmap.specs.IndexMap.{insert_entry}
 use Rattle.indexmap.specs.IndexSet.{insert_key}
 use Rattle.object_files.specs.Catalog.{FileEntry, number_of}
 use Rattle.version_lists.proofs.Lists.{Has}
 use Rattle.history_volumes.specs.Transcribed.{number_in}
 use Rattle.history_volumes.specs.Walks.{added, raised, unit_named}
-use Rattle.history_volumes.proofs.Firsts.{added_none, added_by, has_times, times_has}
+use Rattle.history_volumes.proofs.Firsts.{added_none, times_has}
 
 -- ---- leaves
 

@@ -16,11 +16,10 @@ use Rattle.trees.specs.declared.Pair.{Pair}
 use Rattle.trees.specs.declared.rows.Part.{Part}
 use Rattle.trees.specs.Node.{PairsOf, pairs_on}
 use Rattle.trees.specs.Rows.{AreTrees, parts_of}
-use Rattle.trees.specs.Trees.{Units, HasSize, IsNamed, RootNamed}
+use Rattle.trees.specs.Trees.{Units, HasSize, IsNamed}
 use Rattle.trees.proofs.Reading.{no_part, row_trees}
 use Rattle.version_lists.proofs.Lists.{Has, contains_has, has_contains}
-use Rattle.volume_model.proofs.Places.{each_has}
-use Rattle.history_volumes.specs.Walks.{added, namings_left, nodes_left, of_children, raised, root_namings, root_nodes, with_firsts, with_namings}
+use Rattle.history_volumes.specs.Walks.{added, namings_left, nodes_left, of_children, raised, with_firsts, with_namings}
 use Rattle.history_volumes.proofs.Firsts.{added_from, with_append, with_has, with_keeps, with_none as firsts_none}
 use Rattle.history_volumes.proofs.Made.{one_level}
 use Rattle.history_volumes.proofs.Namings.{Covers, with_covers, with_keeps as covers_keeps, with_more, with_none}

@@ -2,6 +2,7 @@ pub mod Placing
 pub mod Writing
 pub mod Staying
 pub mod Laying
+pub mod Failing
 pub mod Holding
 pub mod Linking
 pub mod RowLinks

@@ -39,3 +39,9 @@ returns-clause-sound g c = IfErr-weaker c.next.result _ _
       shows = rest_shows _ _ (g.D.World.outside c.args.disk.now) c.args.volume.now (record { geometry = refl; unit = refl; image = refl; held = refl }) d image rests;
       gives = is;
     })) c.next.ensures.sound
+
+pub returns-clause-few : goal.returns-clause-few
+returns-clause-few g c = c.next.ensures.few
+
+pub returns-clause-room : goal.returns-clause-room
+returns-clause-room g c = c.next.ensures.room

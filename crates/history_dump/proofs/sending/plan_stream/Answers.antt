@@ -22,3 +22,6 @@ returns-clause-sound g c = IfErr-weaker c.make.result _ _
     (λ fault never damage d image rests.
     never damage (rests.told.1, rests.told.2) [] d.volume
     (rest_shows _ _ (g.D.World.outside c.args.disk.now) c.args.volume.now (record { geometry = refl; unit = refl; image = refl; held = refl }) d image rests)) c.make.ensures.sound
+
+pub returns-clause-room : goal.returns-clause-room
+returns-clause-room g c = c.make.ensures.room

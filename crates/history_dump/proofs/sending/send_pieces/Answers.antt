@@ -6,6 +6,7 @@ use Rattle.history_dump.specs.declared.fault.DumpFault.{DumpFault}
 use Rattle.history_dump.proofs.OutsidesSent.{sends_none, sends_read, sends_sent}
 use Rattle.history_dump.proofs.Faults.{damage_told}
 use Rattle.history_dump.proofs.Pieces.{HasSent, filled, pieces_end, rest_on, room_on, same_stream, sending_on, sent_all, sent_few, sent_more, sent_none, sent_part}
+use Rattle.history_dump.proofs.Results.{never_ok}
 use Rattle.history_dump.proofs.PortShown.{read_sent, rest_sent}
 use Rattle.history_dump.proofs.sending.send_pieces.Goals as goal
 
@@ -32,7 +33,7 @@ returns-in-Err-clause-front g c = λ d disk h rests is was has.
     (λ all.
     let here = sending_on a b i n inv.rest inv.sends.disk d.volume h c.pieces.dumper so_far.at so_far.sending in
     let end = subst (λ (k : ℕ). IsSending b n d.volume h c.pieces.dumper k) (all ∙ sym (ap length (same_stream i n h inv.rest))) here in
-    absurd (let e = c.in-Err.ensures.at_end d disk h (inv.rests d disk rests) end in cc))
+    absurd (never_ok c.in-Err.fault 0 (c.in-Err.ensures.at_end d disk h (inv.rests d disk rests) end)))
     (let only = c.fill_piece.ensures.keeps.only in only.nothing.only.sent) was has
 
 pub returns-in-Err-clause-sound : goal.returns-in-Err-clause-sound
@@ -127,3 +128,57 @@ returns-in-Err-send_all-clause-rests g c = λ d disk rests.
 pub returns-clause-whole : goal.returns-clause-whole
 returns-clause-whole g c = λ d disk h rests is short was has.
     absurd (pieces_end (g.H.World.outside c.args.host.now) c.args.volume.now (g.H.World.outside c.pieces.host) d.volume h c.pieces.dumper c.pieces.left (c.pieces.invariant.given d disk h rests is) (omega (arith, c.pieces-test.false)) short)
+
+pub fill_piece-requires-clause-ready : goal.fill_piece-requires-clause-ready
+fill_piece-requires-clause-ready g c = c.pieces.invariant.ready
+
+pub fill_piece-requires-clause-room : goal.fill_piece-requires-clause-room
+fill_piece-requires-clause-room g c = c.pieces.invariant.room
+
+pub returns-in-Err-clause-only : goal.returns-in-Err-clause-only
+returns-in-Err-clause-only g c = sends_read c.pieces.invariant.sends c.fill_piece.ensures.keeps.only
+
+pub returns-in-Err-clause-whole : goal.returns-in-Err-clause-whole
+returns-in-Err-clause-whole g c = tt
+
+pub returns-then-len-eq0-clause-front : goal.returns-then-len-eq0-clause-front
+returns-then-len-eq0-clause-front g c = tt
+
+pub returns-then-len-eq0-clause-cause : goal.returns-then-len-eq0-clause-cause
+returns-then-len-eq0-clause-cause g c = tt
+
+pub returns-then-len-eq0-clause-sound : goal.returns-then-len-eq0-clause-sound
+returns-then-len-eq0-clause-sound g c = tt
+
+pub returns-in-Err-send_all-clause-whole : goal.returns-in-Err-send_all-clause-whole
+returns-in-Err-send_all-clause-whole g c = tt
+
+pub returns-in-Err-send_all-clause-sound : goal.returns-in-Err-send_all-clause-sound
+returns-in-Err-send_all-clause-sound g c = λ damage. absurd damage
+
+pub returns-clause-only : goal.returns-clause-only
+returns-clause-only g c = c.pieces.invariant.sends
+
+pub returns-clause-rest : goal.returns-clause-rest
+returns-clause-rest g c = c.pieces.invariant.rest
+
+pub returns-clause-rests : goal.returns-clause-rests
+returns-clause-rests g c = c.pieces.invariant.rests
+
+pub returns-clause-front : goal.returns-clause-front
+returns-clause-front g c = tt
+
+pub returns-clause-cause : goal.returns-clause-cause
+returns-clause-cause g c = tt
+
+pub returns-clause-sound : goal.returns-clause-sound
+returns-clause-sound g c = tt
+
+pub returns-in-Err-send_all-clause-rest : goal.returns-in-Err-send_all-clause-rest
+returns-in-Err-send_all-clause-rest g c = rest_on c.args.volume.now c.pieces.volume c.fill_piece.new.volume c.pieces.invariant.rest c.fill_piece.ensures.keeps.rest
+
+pub returns-in-Err-clause-rest : goal.returns-in-Err-clause-rest
+returns-in-Err-clause-rest g c = rest_on c.args.volume.now c.pieces.volume c.fill_piece.new.volume c.pieces.invariant.rest c.fill_piece.ensures.keeps.rest
+
+pub returns-then-len-eq0-clause-rest : goal.returns-then-len-eq0-clause-rest
+returns-then-len-eq0-clause-rest g c = rest_on c.args.volume.now c.pieces.volume c.fill_piece.new.volume c.pieces.invariant.rest c.fill_piece.ensures.keeps.rest

@@ -1,5 +1,6 @@
 use Rattle.std.proofs.Common.{◌≡◌, ℕ, List, ◌++◌, drop, length, take, Result, Ok, Err, refl, sym, ap, subst, ◌∙◌, arith}
 use Rattle.std.specs.Result.{IsErrAnd}
+use Rattle.disk_model.specs.Runs.{reads_refl}
 use Rattle.object_files.specs.Catalog.{CatalogOf}
 use Rattle.object_files.specs.Reads.{catalog_on, with_numbers}
 use Rattle.object_files.proofs.CatalogLaws.{catalog_read}
@@ -58,3 +59,6 @@ returns-clause-loaded g c joined image holds is written =
     (loaded p.geometry image joined c.set_numbers.new.image (stream_head p.head) (history_of is.front) (catalog_on c.args.catalog.items).entries c' read written
     (c.in_ok-walk_written.ensures.walked c' image spelled holds) (omega (arith, long, c.requires.room)) c.set_numbers.ensures size
     (ap (λ (bytes : List ℕ). (catalog_on bytes).entries) c.deref_mut.ensures.value) refl refl)
+
+pub returns-then-not-is_all_read-clause-only : goal.returns-then-not-is_all_read-clause-only
+returns-then-not-is_all_read-clause-only g c = reads_refl (g.D.World.outside c.args.disk.now)

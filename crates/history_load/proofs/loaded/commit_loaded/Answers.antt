@@ -1,7 +1,7 @@
 use Rattle.std.proofs.Common.{◌≡◌, ◌⊎◌, inl, ℕ, List, nat_eq, sym, ap, subst, ◌∙◌}
 use Rattle.std.specs.Map.{lookup}
 use Rattle.ex_base.specs.Area.{catalog_no}
-use Rattle.disk_model.specs.Runs.{leaves_start, leaves_wider}
+use Rattle.disk_model.specs.Runs.{disk_refl, leaves_start, leaves_wider}
 use Rattle.ex_base.proofs.Results.{if_ok_on_ok}
 use Rattle.meta_pages.specs.Overlays.{Overlays}
 use Rattle.table_model.specs.Tables.{empty_table}
@@ -61,3 +61,6 @@ returns-clause-any_moment g c d image stream rests empty loads =
     leaves_wider (StandsForEither d image c.start.new.self.working work.volume) (λ e. StandsFor e empty_table ⊎ IsDumpImage c.args.volume.geometry stream e)
     (c.commit.ensures.any_moment d image work.volume rests.told.0 rests.holds (committed g at d image stream rests empty loads) (overlay g at d image stream rests empty loads) (may g at d image stream rests empty loads))
     (either_load (g.D.World.outside c.args.disk.now) c.args.volume d image rests empty stream c.args.loaded.now.catalog.items c.args.loaded.now.last c.args.loaded.now.leaves work c.start.new.self.working (rows g at))
+
+pub returns-in_default-clause-only : goal.returns-in_default-clause-only
+returns-in_default-clause-only g c = disk_refl (g.D.World.outside c.args.disk.now)

@@ -7,11 +7,13 @@ use Rattle.ex_base.specs.Sizes.{volume_bytes}
 use Rattle.history_load.specs.Faults.{LoadCause}
 use Rattle.history_load.specs.Loading.{IsLoader}
 use Rattle.history_load.specs.Streams.{Feeds, most_behind}
-use Rattle.history_load.specs.declared.faults.LoadFault.TheVariants.{Stream}
-use Rattle.history_load.proofs.Causes.{cause_since}
+use Rattle.history_load.specs.declared.faults.LoadFault.TheVariants.{Stream, Memory}
+use Rattle.history_load.proofs.Causes.{cause_since, memory_no_stream, stream_same}
 use Rattle.history_load.proofs.Feeding.{came_all, drawn_on, feeds_none, feeds_on, loads_all, refused_behind, same_handed, takes_joined, takes_none, too_much}
 use Rattle.history_reads.specs.declared.heads.HeadFault.TheVariants.{Bad}
 use Rattle.history_load.proofs.EmptyVolumesStay.{staying_joins, taking_stays}
+use Rattle.ex_base.proofs.Handed.{not_given}
+use Rattle.history_load.proofs.EndedBy.{ends_with}
 use Rattle.history_load.proofs.stream.feed_all.Goals as goal
 
 pub returns-in_err-piece-clause-draws : goal.returns-in_err-piece-clause-draws
@@ -135,10 +137,57 @@ pub returns-clause-refused : goal.returns-clause-refused
 returns-clause-refused g c fault is =
     let inv = c.pieces.invariant in
     let most = most_behind c.args.loader.now.progress.geometry c.args.loader.now.progress.head in
-    let same : Bad ≡ fault = cc is in
+    let same : Bad ≡ fault = stream_same Bad fault (ends_with _ (Stream fault) is) in
     (sym same, too_much (most - c.pieces.left) inv.fed (omega (arith, inv.few, c.pieces-test.false)))
 
 pub returns-clause-draws : goal.returns-clause-draws
 returns-clause-draws g c =
     let most = most_behind c.args.loader.now.progress.geometry c.args.loader.now.progress.head in
     (most - c.pieces.left, omega arith, c.pieces.invariant.fed.takes)
+
+-- ---- what else is promised
+
+pub returns-in_err-piece-clause-is : goal.returns-in_err-piece-clause-is
+returns-in_err-piece-clause-is g c = not_given c.from_residual.result _ Memory c.from_residual.ensures.1
+
+pub returns-in_err-piece-clause-loads : goal.returns-in_err-piece-clause-loads
+returns-in_err-piece-clause-loads g c = not_given c.from_residual.result _ Memory c.from_residual.ensures.1
+
+pub returns-in_err-piece-clause-stream : goal.returns-in_err-piece-clause-stream
+returns-in_err-piece-clause-stream g c = (refl, refl)
+
+pub returns-in_err-piece-clause-refused : goal.returns-in_err-piece-clause-refused
+returns-in_err-piece-clause-refused g c = λ fault e. absurd (memory_no_stream c.from_residual.result fault c.from_residual.ensures.1 e)
+
+pub returns-in_err-piece-clause-cause : goal.returns-in_err-piece-clause-cause
+returns-in_err-piece-clause-cause g c = if_err_handed c.from_residual.result (LoadCause (g.H.World.outside c.args.host.now) (g.H.World.outside c.args.host.now)) Memory c.from_residual.ensures.1 tt
+
+pub returns-in_err-n-clause-is : goal.returns-in_err-n-clause-is
+returns-in_err-n-clause-is g c = not_given c.from_residual-in_err-n.result _ c.in_err-n.field-0.0 c.from_residual-in_err-n.ensures.1
+
+pub returns-in_err-n-clause-loads : goal.returns-in_err-n-clause-loads
+returns-in_err-n-clause-loads g c = not_given c.from_residual-in_err-n.result _ c.in_err-n.field-0.0 c.from_residual-in_err-n.ensures.1
+
+pub returns-then-n-eq0-clause-cause : goal.returns-then-n-eq0-clause-cause
+returns-then-n-eq0-clause-cause g c = tt
+
+pub returns-clause-is : goal.returns-clause-is
+returns-clause-is g c = tt
+
+pub returns-clause-loads : goal.returns-clause-loads
+returns-clause-loads g c = tt
+
+pub returns-clause-stream : goal.returns-clause-stream
+returns-clause-stream g c = c.pieces.invariant.stream
+
+pub returns-clause-stays : goal.returns-clause-stays
+returns-clause-stays g c = c.pieces.invariant.stays
+
+pub returns-clause-only : goal.returns-clause-only
+returns-clause-only g c = c.pieces.invariant.only
+
+pub returns-clause-cause : goal.returns-clause-cause
+returns-clause-cause g c = tt
+
+pub returns-then-n-eq0-clause-refused : goal.returns-then-n-eq0-clause-refused
+returns-then-n-eq0-clause-refused g c = λ fault e. absurd (ends_with _ (Stream fault) e)

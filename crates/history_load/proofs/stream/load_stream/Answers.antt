@@ -2,11 +2,15 @@ use Rattle.std.proofs.Common.{◌≡◌, ◌⊎◌, ◌∙◌, Err, inl, sym, ap
 use Rattle.disk_model.specs.Runs.{leaves_trans, leaves_wider}
 use Rattle.history_load.specs.Loads.{IsDumpImage}
 use Rattle.history_load.proofs.EndFaults.{commit_kept, commit_no_stream}
-use Rattle.history_load.specs.declared.faults.LoadFault.TheVariants.{Stream}
+use Rattle.history_load.specs.declared.faults.LoadFault.TheVariants.{Stream, Disk}
 use Rattle.history_load.proofs.Feeding.{same_handed, takes_disk, takes_joined}
 use Rattle.history_load.specs.Staying.{StaysEmpty}
 use Rattle.table_model.specs.Tables.{empty_table}
 use Rattle.volume_model.specs.Parts.{StandsFor}
+use Rattle.ex_base.proofs.Results.{if_err_handed}
+use Rattle.history_load.specs.Faults.{LoadCause, fault_of_commit}
+use Rattle.ex_base.proofs.Handed.{no_value, not_given}
+use Rattle.history_load.proofs.Causes.{cause_since, commit_cause}
 use Rattle.history_load.proofs.stream.load_stream.Goals as goal
 
 pub commit_loaded-requires-clause-room : goal.commit_loaded-requires-clause-room
@@ -67,3 +71,41 @@ pub returns-in_err-loaded-clause-refused : goal.returns-in_err-loaded-clause-ref
 returns-in_err-loaded-clause-refused g c fault stream image e honest has holds =
     let same : c.in_err-loaded.field-0.0 ≡ Stream fault = same_handed c.from_residual.result c.in_err-loaded.field-0.0 (Stream fault) c.from_residual.ensures.1 e in
     c.in_err-loaded.ensures.refused fault stream image (ap Err same) honest has holds
+
+-- ---- what else is promised
+
+pub returns-in_err-loaded-clause-fits : goal.returns-in_err-loaded-clause-fits
+returns-in_err-loaded-clause-fits g c = not_given c.from_residual.result _ c.in_err-loaded.field-0.0 c.from_residual.ensures.1
+
+pub returns-in_err-loaded-clause-done : goal.returns-in_err-loaded-clause-done
+returns-in_err-loaded-clause-done g c = no_value c.from_residual.result _ c.in_err-loaded.field-0.0 c.from_residual.ensures.1
+
+pub returns-in_err-loaded-clause-only : goal.returns-in_err-loaded-clause-only
+returns-in_err-loaded-clause-only g c = c.write_stream.ensures.only
+
+pub returns-in_err-loaded-clause-draws : goal.returns-in_err-loaded-clause-draws
+returns-in_err-loaded-clause-draws g c = c.write_stream.ensures.draws
+
+pub returns-in_err-loaded-clause-kept : goal.returns-in_err-loaded-clause-kept
+returns-in_err-loaded-clause-kept g c = if_err_handed c.from_residual.result (λ fault. (fault ≡ Disk → ⊥) → StaysEmpty (g.H.World.outside c.args.host.now) (g.H.World.outside c.write_stream.new.host) c.args.volume) c.in_err-loaded.field-0.0 c.from_residual.ensures.1 (λ other. c.write_stream.ensures.stays)
+
+pub returns-in_err-loaded-clause-cause : goal.returns-in_err-loaded-clause-cause
+returns-in_err-loaded-clause-cause g c = if_err_handed c.from_residual.result (LoadCause (g.H.World.outside c.args.host.now) (g.H.World.outside c.write_stream.new.host)) c.in_err-loaded.field-0.0 c.from_residual.ensures.1 c.in_err-loaded.ensures.cause
+
+pub returns-in_err-commit_loaded-clause-fits : goal.returns-in_err-commit_loaded-clause-fits
+returns-in_err-commit_loaded-clause-fits g c = not_given c.from_residual-in_err-commit_loaded.result _ (fault_of_commit c.in_err-commit_loaded.field-0.0) c.from_residual-in_err-commit_loaded.ensures.1
+
+pub returns-in_err-commit_loaded-clause-done : goal.returns-in_err-commit_loaded-clause-done
+returns-in_err-commit_loaded-clause-done g c = no_value c.from_residual-in_err-commit_loaded.result _ (fault_of_commit c.in_err-commit_loaded.field-0.0) c.from_residual-in_err-commit_loaded.ensures.1
+
+pub returns-in_err-commit_loaded-clause-cause : goal.returns-in_err-commit_loaded-clause-cause
+returns-in_err-commit_loaded-clause-cause g c = if_err_handed c.from_residual-in_err-commit_loaded.result (LoadCause (g.H.World.outside c.args.host.now) (g.H.World.outside c.commit_loaded.new.disk)) (fault_of_commit c.in_err-commit_loaded.field-0.0) c.from_residual-in_err-commit_loaded.ensures.1 (cause_since (g.H.World.outside c.args.host.now) (g.H.World.outside c.write_stream.new.host) (g.H.World.outside c.commit_loaded.new.disk) (fault_of_commit c.in_err-commit_loaded.field-0.0) c.write_stream.ensures.only.goes.disk_faults c.write_stream.ensures.only.goes.read_faults (commit_cause (g.H.World.outside c.write_stream.new.host) (g.H.World.outside c.commit_loaded.new.disk) c.in_err-commit_loaded.field-0.0 (λ disk. c.in_err-commit_loaded.ensures.disk (ap Err disk))))
+
+pub returns-clause-fits : goal.returns-clause-fits
+returns-clause-fits g c = c.in_ok-loaded.ensures.fits
+
+pub returns-clause-kept : goal.returns-clause-kept
+returns-clause-kept g c = tt
+
+pub returns-clause-cause : goal.returns-clause-cause
+returns-clause-cause g c = tt

@@ -8,7 +8,7 @@ use Rattle.history_items.specs.declared.head.Head.{Head}
 use Rattle.history_load.specs.Loading.{IsLoadedTo, IsLoader}
 use Rattle.history_load.specs.Staying.{StaysEmpty}
 use Rattle.history_load.specs.Streams.{IsDrawn, LoadsAll, NoneBehindHead, StreamRefused, TakesAndWrites, most_behind}
-use Rattle.history_load.specs.declared.faults.LoadFault.TheVariants.{Stream}
+use Rattle.history_load.specs.declared.faults.LoadFault.TheVariants.{Stream, Disk, Memory}
 use Rattle.history_load.specs.declared.loader.Loader.{Loader}
 use Rattle.history_load.proofs.EmptyVolumesStay.{staying_joins, taking_stays}
 use Rattle.history_load.proofs.EndFaults.{test_bad}
@@ -18,6 +18,11 @@ use Rattle.history_load.proofs.StreamsWritten.{all_loaded, draws_all, none_is, n
 use Rattle.history_load.proofs.WholeStreams.{CanEnd, can_end, versions_counted}
 use Rattle.history_model.specs.Stream.{head_bytes}
 use Rattle.history_load.proofs.stream.write_stream.Given as given
+use Rattle.ex_base.proofs.Results.{if_err_handed}
+use Rattle.history_load.specs.Faults.{LoadCause, fault_of_finish}
+use Rattle.ex_base.proofs.Handed.{no_value, not_given}
+use Rattle.history_load.proofs.EndedBy.{ends_with}
+use Rattle.history_load.proofs.Causes.{cause_since, finish_cause, memory_no_stream, disk_no_stream}
 use Rattle.history_load.proofs.stream.write_stream.Goals as goal
 use Rattle.history_load.proofs.stream.write_stream.Goals.{After-feed_all}
 
@@ -184,3 +189,119 @@ returns-clause-versions g c stream image honest has holds table dump =
     let at = (goal.at.returns-clause-versions g c).After-feed_all in
     let came = all g at c.in_ok-feed_all.ensures.loads stream image honest has holds in
     c.in_ok-loaded.ensures.versions ∙ versions_counted c.args.volume.now.geometry came.0 stream c.feed_all.new.loader table came.2 dump
+
+-- ---- what else is promised
+
+pub returns-in_err-head-clause-fits : goal.returns-in_err-head-clause-fits
+returns-in_err-head-clause-fits g c = not_given c.from_residual.result _ c.in_err-head.field-0.0 c.from_residual.ensures.1
+
+pub returns-in_err-head-clause-page : goal.returns-in_err-head-clause-page
+returns-in_err-head-clause-page g c = no_value c.from_residual.result _ c.in_err-head.field-0.0 c.from_residual.ensures.1
+
+pub returns-in_err-head-clause-written : goal.returns-in_err-head-clause-written
+returns-in_err-head-clause-written g c = no_value c.from_residual.result _ c.in_err-head.field-0.0 c.from_residual.ensures.1
+
+pub returns-in_err-head-clause-versions : goal.returns-in_err-head-clause-versions
+returns-in_err-head-clause-versions g c = no_value c.from_residual.result _ c.in_err-head.field-0.0 c.from_residual.ensures.1
+
+pub returns-in_err-head-clause-only : goal.returns-in_err-head-clause-only
+returns-in_err-head-clause-only g c = takes_source c.take_head.ensures.only
+
+pub returns-in_err-head-clause-cause : goal.returns-in_err-head-clause-cause
+returns-in_err-head-clause-cause g c = if_err_handed c.from_residual.result (LoadCause (g.H.World.outside c.args.host.now) (g.H.World.outside c.take_head.new.source)) c.in_err-head.field-0.0 c.from_residual.ensures.1 c.in_err-head.ensures.cause
+
+pub returns-in_err-loader-clause-fits : goal.returns-in_err-loader-clause-fits
+returns-in_err-loader-clause-fits g c = not_given c.from_residual-in_err-loader.result _ Memory c.from_residual-in_err-loader.ensures.1
+
+pub returns-in_err-loader-clause-page : goal.returns-in_err-loader-clause-page
+returns-in_err-loader-clause-page g c = no_value c.from_residual-in_err-loader.result _ Memory c.from_residual-in_err-loader.ensures.1
+
+pub returns-in_err-loader-clause-written : goal.returns-in_err-loader-clause-written
+returns-in_err-loader-clause-written g c = no_value c.from_residual-in_err-loader.result _ Memory c.from_residual-in_err-loader.ensures.1
+
+pub returns-in_err-loader-clause-versions : goal.returns-in_err-loader-clause-versions
+returns-in_err-loader-clause-versions g c = no_value c.from_residual-in_err-loader.result _ Memory c.from_residual-in_err-loader.ensures.1
+
+pub returns-in_err-loader-clause-refused : goal.returns-in_err-loader-clause-refused
+returns-in_err-loader-clause-refused g c = λ fault stream image e honest has holds. absurd (memory_no_stream c.from_residual-in_err-loader.result fault c.from_residual-in_err-loader.ensures.1 e)
+
+pub returns-in_err-loader-clause-only : goal.returns-in_err-loader-clause-only
+returns-in_err-loader-clause-only g c = takes_source c.take_head.ensures.only
+
+pub returns-in_err-loader-clause-cause : goal.returns-in_err-loader-clause-cause
+returns-in_err-loader-clause-cause g c = if_err_handed c.from_residual-in_err-loader.result (LoadCause (g.H.World.outside c.args.host.now) (g.H.World.outside c.take_head.new.source)) Memory c.from_residual-in_err-loader.ensures.1 tt
+
+pub returns-in_err-feed_all-clause-fits : goal.returns-in_err-feed_all-clause-fits
+returns-in_err-feed_all-clause-fits g c = not_given c.from_residual-in_err-feed_all.result _ c.in_err-feed_all.field-0.0 c.from_residual-in_err-feed_all.ensures.1
+
+pub returns-in_err-feed_all-clause-page : goal.returns-in_err-feed_all-clause-page
+returns-in_err-feed_all-clause-page g c = no_value c.from_residual-in_err-feed_all.result _ c.in_err-feed_all.field-0.0 c.from_residual-in_err-feed_all.ensures.1
+
+pub returns-in_err-feed_all-clause-written : goal.returns-in_err-feed_all-clause-written
+returns-in_err-feed_all-clause-written g c = no_value c.from_residual-in_err-feed_all.result _ c.in_err-feed_all.field-0.0 c.from_residual-in_err-feed_all.ensures.1
+
+pub returns-in_err-feed_all-clause-versions : goal.returns-in_err-feed_all-clause-versions
+returns-in_err-feed_all-clause-versions g c = no_value c.from_residual-in_err-feed_all.result _ c.in_err-feed_all.field-0.0 c.from_residual-in_err-feed_all.ensures.1
+
+pub returns-in_err-feed_all-clause-only : goal.returns-in_err-feed_all-clause-only
+returns-in_err-feed_all-clause-only g c = takes_joined (takes_source c.take_head.ensures.only) c.feed_all.ensures.only
+
+pub returns-in_err-feed_all-clause-cause : goal.returns-in_err-feed_all-clause-cause
+returns-in_err-feed_all-clause-cause g c = if_err_handed c.from_residual-in_err-feed_all.result (LoadCause (g.H.World.outside c.args.host.now) (g.H.World.outside c.feed_all.new.host)) c.in_err-feed_all.field-0.0 c.from_residual-in_err-feed_all.ensures.1 (cause_since (g.H.World.outside c.args.host.now) (g.H.World.outside c.take_head.new.source) (g.H.World.outside c.feed_all.new.host) c.in_err-feed_all.field-0.0 c.take_head.ensures.only.goes.disk_faults c.take_head.ensures.only.goes.read_faults c.in_err-feed_all.ensures.cause)
+
+pub returns-in_err-loaded-clause-fits : goal.returns-in_err-loaded-clause-fits
+returns-in_err-loaded-clause-fits g c = not_given c.from_residual-in_err-loaded.result _ (fault_of_finish c.in_err-loaded.field-0.0) c.from_residual-in_err-loaded.ensures.1
+
+pub returns-in_err-loaded-clause-page : goal.returns-in_err-loaded-clause-page
+returns-in_err-loaded-clause-page g c = no_value c.from_residual-in_err-loaded.result _ (fault_of_finish c.in_err-loaded.field-0.0) c.from_residual-in_err-loaded.ensures.1
+
+pub returns-in_err-loaded-clause-written : goal.returns-in_err-loaded-clause-written
+returns-in_err-loaded-clause-written g c = no_value c.from_residual-in_err-loaded.result _ (fault_of_finish c.in_err-loaded.field-0.0) c.from_residual-in_err-loaded.ensures.1
+
+pub returns-in_err-loaded-clause-versions : goal.returns-in_err-loaded-clause-versions
+returns-in_err-loaded-clause-versions g c = no_value c.from_residual-in_err-loaded.result _ (fault_of_finish c.in_err-loaded.field-0.0) c.from_residual-in_err-loaded.ensures.1
+
+pub returns-in_err-loaded-clause-cause : goal.returns-in_err-loaded-clause-cause
+returns-in_err-loaded-clause-cause g c = if_err_handed c.from_residual-in_err-loaded.result (LoadCause (g.H.World.outside c.args.host.now) (g.H.World.outside c.finish.new.disk)) (fault_of_finish c.in_err-loaded.field-0.0) c.from_residual-in_err-loaded.ensures.1 (cause_since (g.H.World.outside c.args.host.now) (g.H.World.outside c.take_head.new.source) (g.H.World.outside c.finish.new.disk) (fault_of_finish c.in_err-loaded.field-0.0) c.take_head.ensures.only.goes.disk_faults c.take_head.ensures.only.goes.read_faults (cause_since (g.H.World.outside c.take_head.new.source) (g.H.World.outside c.feed_all.new.host) (g.H.World.outside c.finish.new.disk) (fault_of_finish c.in_err-loaded.field-0.0) c.feed_all.ensures.only.goes.disk_faults c.feed_all.ensures.only.goes.read_faults (finish_cause (g.H.World.outside c.feed_all.new.host) (g.H.World.outside c.finish.new.disk) c.in_err-loaded.field-0.0 (λ disk. c.in_err-loaded.ensures.cause (ap Err disk)))))
+
+pub returns-in_err-sync-clause-fits : goal.returns-in_err-sync-clause-fits
+returns-in_err-sync-clause-fits g c = not_given c.from_residual-in_err-sync.result _ Disk c.from_residual-in_err-sync.ensures.1
+
+pub returns-in_err-sync-clause-page : goal.returns-in_err-sync-clause-page
+returns-in_err-sync-clause-page g c = no_value c.from_residual-in_err-sync.result _ Disk c.from_residual-in_err-sync.ensures.1
+
+pub returns-in_err-sync-clause-written : goal.returns-in_err-sync-clause-written
+returns-in_err-sync-clause-written g c = no_value c.from_residual-in_err-sync.result _ Disk c.from_residual-in_err-sync.ensures.1
+
+pub returns-in_err-sync-clause-versions : goal.returns-in_err-sync-clause-versions
+returns-in_err-sync-clause-versions g c = no_value c.from_residual-in_err-sync.result _ Disk c.from_residual-in_err-sync.ensures.1
+
+pub returns-in_err-sync-clause-refused : goal.returns-in_err-sync-clause-refused
+returns-in_err-sync-clause-refused g c = λ fault stream image e honest has holds. absurd (disk_no_stream c.from_residual-in_err-sync.result fault c.from_residual-in_err-sync.ensures.1 e)
+
+pub returns-in_err-sync-clause-cause : goal.returns-in_err-sync-clause-cause
+returns-in_err-sync-clause-cause g c = if_err_handed c.from_residual-in_err-sync.result (LoadCause (g.H.World.outside c.args.host.now) (g.H.World.outside c.sync.new.self)) Disk c.from_residual-in_err-sync.ensures.1 (cause_since (g.H.World.outside c.args.host.now) (g.H.World.outside c.take_head.new.source) (g.H.World.outside c.sync.new.self) Disk c.take_head.ensures.only.goes.disk_faults c.take_head.ensures.only.goes.read_faults (cause_since (g.H.World.outside c.take_head.new.source) (g.H.World.outside c.feed_all.new.host) (g.H.World.outside c.sync.new.self) Disk c.feed_all.ensures.only.goes.disk_faults c.feed_all.ensures.only.goes.read_faults (cause_since (g.H.World.outside c.feed_all.new.host) (g.H.World.outside c.finish.new.disk) (g.H.World.outside c.sync.new.self) Disk c.finish.ensures.only.nothing.only.goes.disk_faults c.finish.ensures.only.nothing.only.goes.read_faults c.in_err-sync.ensures.cause)))
+
+pub returns-clause-cause : goal.returns-clause-cause
+returns-clause-cause g c = tt
+
+pub make-requires-clause-head : goal.make-requires-clause-head
+make-requires-clause-head g c = c.in_ok-head.ensures.is
+
+pub make-requires-clause-room : goal.make-requires-clause-room
+make-requires-clause-room g c = c.in_ok-head.ensures.room
+
+pub finish-requires-clause-leaves : goal.finish-requires-clause-leaves
+finish-requires-clause-leaves g c = (fed_is c.in_ok-loader.loader c.feed_all.new.loader c.feed_all.ensures.stream.0 c.in_ok-feed_all.ensures.is).leaves
+
+pub finish-requires-clause-nodes : goal.finish-requires-clause-nodes
+finish-requires-clause-nodes g c = (fed_is c.in_ok-loader.loader c.feed_all.new.loader c.feed_all.ensures.stream.0 c.in_ok-feed_all.ensures.is).nodes
+
+pub finish-requires-clause-whole : goal.finish-requires-clause-whole
+finish-requires-clause-whole g c = (fed_is c.in_ok-loader.loader c.feed_all.new.loader c.feed_all.ensures.stream.0 c.in_ok-feed_all.ensures.is).size
+
+pub returns-in_err-head-clause-refused : goal.returns-in_err-head-clause-refused
+returns-in_err-head-clause-refused g c = λ fault stream image e honest has holds. c.in_err-head.ensures.refused fault stream (ap Err (same_handed c.from_residual.result c.in_err-head.field-0.0 (Stream fault) c.from_residual.ensures.1 e)) has
+
+pub returns-clause-refused : goal.returns-clause-refused
+returns-clause-refused g c = λ fault stream image e honest has holds. absurd (ends_with _ (Stream fault) e)

@@ -9,6 +9,8 @@ use Rattle.history_plans.specs.Plans.{len_listed}
 use Rattle.history_plans.proofs.Listing.{all_readable, lens_of_records, listed_stored, numbers_differ, order_listed, roots_of_records}
 use Rattle.history_plans.proofs.Roots.{file_left, trees_listed}
 use Rattle.history_plans.proofs.Walking.{shows_on}
+use Rattle.ex_base.proofs.Handed.{cause_after}
+use Rattle.ex_base.proofs.Keeping.{keeps_on}
 use Rattle.history_plans.proofs.files.plan_file.Goals as goal
 
 pub returns-in-Err-clause-sound : goal.returns-in-Err-clause-sound
@@ -45,3 +47,42 @@ returns-clause-sound g c = λ damage told units shows file has trees.
     let same : roots_listed c.deref.result.now ≡ roots_stored file = ap roots_listed (c.deref.ensures.value ∙ items) ∙ roots_of_records (in_order unique_of file.stored) in
     c.in-Err-walk_records.ensures.sound damage (b.leads_told c.args.volume.now c.records_in_order.new.volume k.leads told) units (shows_on b units c.args.volume.now c.records_in_order.new.volume k shows)
     (trees_listed b c.args.volume.now c.records_in_order.new.volume units c.deref.result.now file k same trees)
+
+pub records_in_order-requires : goal.records_in_order-requires
+records_in_order-requires g c = c.requires
+
+pub walk_records-requires : goal.walk_records-requires
+walk_records-requires g c = g.V.Ground.leads_ready c.args.volume.now c.records_in_order.new.volume c.in-Ok.ensures.kept.leads c.requires
+
+pub returns-in-Err-clause-walked : goal.returns-in-Err-clause-walked
+returns-in-Err-clause-walked g c = tt
+
+pub returns-in-Err-clause-pages : goal.returns-in-Err-clause-pages
+returns-in-Err-clause-pages g c = tt
+
+pub returns-in-Err-clause-kept : goal.returns-in-Err-clause-kept
+returns-in-Err-clause-kept g c = c.in-Err.ensures.kept
+
+pub returns-in-Err-clause-cause : goal.returns-in-Err-clause-cause
+returns-in-Err-clause-cause g c = c.in-Err.ensures.cause
+
+pub returns-in-Ok-walk_records-clause-sound : goal.returns-in-Ok-walk_records-clause-sound
+returns-in-Ok-walk_records-clause-sound g c = tt
+
+pub returns-in-Ok-walk_records-clause-kept : goal.returns-in-Ok-walk_records-clause-kept
+returns-in-Ok-walk_records-clause-kept g c = keeps_on g.V.Ground c.args.volume.now c.records_in_order.new.volume c.walk_records.new.volume c.in-Ok.ensures.kept c.in-Ok-walk_records.ensures.kept
+
+pub returns-in-Ok-walk_records-clause-cause : goal.returns-in-Ok-walk_records-clause-cause
+returns-in-Ok-walk_records-clause-cause g c = tt
+
+pub returns-clause-walked : goal.returns-clause-walked
+returns-clause-walked g c = tt
+
+pub returns-clause-pages : goal.returns-clause-pages
+returns-clause-pages g c = tt
+
+pub returns-clause-kept : goal.returns-clause-kept
+returns-clause-kept g c = keeps_on g.V.Ground c.args.volume.now c.records_in_order.new.volume c.walk_records.new.volume c.in-Ok.ensures.kept c.in-Err-walk_records.ensures.kept
+
+pub returns-clause-cause : goal.returns-clause-cause
+returns-clause-cause g c = cause_after g.V.Ground c.args.volume.now c.records_in_order.new.volume c.in-Ok.ensures.kept.leads c.walk_records.new.volume c.in-Err-walk_records.fault c.in-Err-walk_records.ensures.cause

@@ -1,6 +1,8 @@
-use Rattle.std.proofs.Common.{◌≤◌, ◌<◌, ◌+◌, arith, get_or}
-use Rattle.history_plans.proofs.Roots.{file_at, file_trees, files_done, files_more, no_file, pages_done, pages_within}
+use Rattle.std.proofs.Common.{arith, get_or}
+use Rattle.history_plans.proofs.Roots.{file_at, file_trees, files_done, files_more, no_file, pages_done, pages_within, files_start}
 use Rattle.history_plans.proofs.Walking.{shows_on}
+use Rattle.ex_base.proofs.Handed.{cause_after}
+use Rattle.ex_base.proofs.Keeping.{keeps_on}
 use Rattle.history_plans.proofs.files.plan_files.Goals as goal
 
 pub returns-in-Err-clause-sound : goal.returns-in-Err-clause-sound
@@ -35,3 +37,39 @@ returns-clause-walked g c = λ told units shows closed files have named.
 pub returns-clause-pages : goal.returns-clause-pages
 returns-clause-pages g c = λ told files have.
     pages_done g.V.Ground c.args.volume.now c.loop-number.volume c.args.numbers.now c.loop-number.number-index c.args.pieces.now c.loop-number.pieces c.loop-number.pages c.loop-number-test.false c.loop-number.invariant told files have
+
+pub loop-number-init : goal.loop-number-init
+loop-number-init g c = files_start g.V.Ground c.args.volume.now c.args.numbers.now c.args.pieces.now
+
+pub plan_file-requires : goal.plan_file-requires
+plan_file-requires g c = g.V.Ground.leads_ready c.args.volume.now c.loop-number.volume c.loop-number.invariant.kept.leads c.requires
+
+pub returns-in-Err-clause-walked : goal.returns-in-Err-clause-walked
+returns-in-Err-clause-walked g c = tt
+
+pub returns-in-Err-clause-pages : goal.returns-in-Err-clause-pages
+returns-in-Err-clause-pages g c = tt
+
+pub returns-in-Err-clause-kept : goal.returns-in-Err-clause-kept
+returns-in-Err-clause-kept g c = keeps_on g.V.Ground c.args.volume.now c.loop-number.volume c.plan_file.new.volume c.loop-number.invariant.kept c.in-Err.ensures.kept
+
+pub returns-in-Err-clause-cause : goal.returns-in-Err-clause-cause
+returns-in-Err-clause-cause g c = cause_after g.V.Ground c.args.volume.now c.loop-number.volume c.loop-number.invariant.kept.leads c.plan_file.new.volume c.in-Err.fault c.in-Err.ensures.cause
+
+pub returns-in-Err-pages_more-clause-walked : goal.returns-in-Err-pages_more-clause-walked
+returns-in-Err-pages_more-clause-walked g c = tt
+
+pub returns-in-Err-pages_more-clause-pages : goal.returns-in-Err-pages_more-clause-pages
+returns-in-Err-pages_more-clause-pages g c = tt
+
+pub returns-in-Err-pages_more-clause-kept : goal.returns-in-Err-pages_more-clause-kept
+returns-in-Err-pages_more-clause-kept g c = keeps_on g.V.Ground c.args.volume.now c.loop-number.volume c.plan_file.new.volume c.loop-number.invariant.kept c.in-Ok.ensures.kept
+
+pub returns-clause-sound : goal.returns-clause-sound
+returns-clause-sound g c = tt
+
+pub returns-clause-kept : goal.returns-clause-kept
+returns-clause-kept g c = c.loop-number.invariant.kept
+
+pub returns-clause-cause : goal.returns-clause-cause
+returns-clause-cause g c = tt

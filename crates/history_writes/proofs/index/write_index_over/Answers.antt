@@ -1,13 +1,16 @@
 use Rattle.std.proofs.Common.{◌≡◌, ◌≤◌, ◌+◌, ℕ, List, length, refl, sym, ap, subst, ◌∙◌, arith}
 use Rattle.ex_base.specs.Sizes.{geometry_is}
-use Rattle.ex_base.proofs.Results.{cause_handed}
-use Rattle.disk_model.specs.Changes.{changes_trans, changes_wider}
+use Rattle.ex_base.proofs.Results.{cause_handed, if_err_handed}
+use Rattle.disk_model.specs.Changes.{changes_trans, changes_wider, changes_refl}
 use Rattle.file_index.specs.declared.Entry.{Entry}
 use Rattle.even_indexes.specs.Levels.{pages_over}
 use Rattle.history_writes.specs.Places.{InPagesFrom}
 use Rattle.history_writes.specs.declared.index.Level.{Level}
 use Rattle.history_writes.specs.Indexed.{LevelWritten}
 use Rattle.history_writes.proofs.Levels.{HaveRoom, LevelsTo, index_end, levels_begun, levels_more, next_least, next_level, next_most}
+use Rattle.ex_base.specs.declared.faults.PortFault.TheVariants.{Memory}
+use Rattle.ex_base.specs.Ports.{IsDamage}
+use Rattle.ex_base.proofs.Handed.{no_value, cause_here}
 use Rattle.history_writes.proofs.index.write_index_over.Goals as goal
 
 pub levels-init : goal.levels-init
@@ -129,3 +132,56 @@ returns-clause-indexes g c =
     let room : HaveRoom c.args.geometry.now c.args.first.0 c.args.pages = record { some = c.requires.some; behind = c.requires.behind; there = c.requires.there } in
     let one : length c.levels.entries.items ≤ 1 = omega arith in
     index_end c.args.geometry.now a mid c.args.file_no c.args.first.0 c.args.pages c.levels.level c.levels.next c.levels.entries.items c.index.result.now _ room c.levels.invariant c.ranges.file_no.fits one (ap (λ (e : Entry). e.page) c.index.ensures) refl refl
+
+-- ---- what else is promised
+
+pub returns-in_err-entries-clause-indexes : goal.returns-in_err-entries-clause-indexes
+returns-in_err-entries-clause-indexes g c = no_value c.from_residual.result _ Memory c.from_residual.ensures.1
+
+pub returns-in_err-entries-clause-behind : goal.returns-in_err-entries-clause-behind
+returns-in_err-entries-clause-behind g c = no_value c.from_residual.result _ Memory c.from_residual.ensures.1
+
+pub returns-in_err-entries-clause-few : goal.returns-in_err-entries-clause-few
+returns-in_err-entries-clause-few g c = no_value c.from_residual.result _ Memory c.from_residual.ensures.1
+
+pub returns-in_err-entries-clause-root : goal.returns-in_err-entries-clause-root
+returns-in_err-entries-clause-root g c = no_value c.from_residual.result _ Memory c.from_residual.ensures.1
+
+pub returns-in_err-entries-clause-low : goal.returns-in_err-entries-clause-low
+returns-in_err-entries-clause-low g c = no_value c.from_residual.result _ Memory c.from_residual.ensures.1
+
+pub returns-in_err-entries-clause-page : goal.returns-in_err-entries-clause-page
+returns-in_err-entries-clause-page g c = c.requires.page
+
+pub returns-in_err-entries-clause-changes : goal.returns-in_err-entries-clause-changes
+returns-in_err-entries-clause-changes g c = changes_refl (InPagesFrom c.args.geometry.now (c.args.first.0 + c.args.pages)) (g.D.World.outside c.args.disk.now)
+
+pub returns-in_err-entries-clause-no_damage : goal.returns-in_err-entries-clause-no_damage
+returns-in_err-entries-clause-no_damage g c = if_err_handed c.from_residual.result (λ fault. IsDamage fault → ⊥) Memory c.from_residual.ensures.1 (λ is. is)
+
+pub returns-in_err-entries-clause-cause : goal.returns-in_err-entries-clause-cause
+returns-in_err-entries-clause-cause g c = cause_here (g.D.World.outside c.args.disk.now).disk_faults (g.D.World.outside c.args.disk.now).disk_faults c.from_residual.result Memory c.from_residual.ensures.1 tt
+
+pub returns-in_err-entries-2-clause-indexes : goal.returns-in_err-entries-2-clause-indexes
+returns-in_err-entries-2-clause-indexes g c = no_value c.from_residual-in_err-entries-2.result _ c.in_err-entries-2.field-0.0 c.from_residual-in_err-entries-2.ensures.1
+
+pub returns-in_err-entries-2-clause-behind : goal.returns-in_err-entries-2-clause-behind
+returns-in_err-entries-2-clause-behind g c = no_value c.from_residual-in_err-entries-2.result _ c.in_err-entries-2.field-0.0 c.from_residual-in_err-entries-2.ensures.1
+
+pub returns-in_err-entries-2-clause-few : goal.returns-in_err-entries-2-clause-few
+returns-in_err-entries-2-clause-few g c = no_value c.from_residual-in_err-entries-2.result _ c.in_err-entries-2.field-0.0 c.from_residual-in_err-entries-2.ensures.1
+
+pub returns-in_err-entries-2-clause-root : goal.returns-in_err-entries-2-clause-root
+returns-in_err-entries-2-clause-root g c = no_value c.from_residual-in_err-entries-2.result _ c.in_err-entries-2.field-0.0 c.from_residual-in_err-entries-2.ensures.1
+
+pub returns-in_err-entries-2-clause-low : goal.returns-in_err-entries-2-clause-low
+returns-in_err-entries-2-clause-low g c = no_value c.from_residual-in_err-entries-2.result _ c.in_err-entries-2.field-0.0 c.from_residual-in_err-entries-2.ensures.1
+
+pub returns-in_err-entries-2-clause-no_damage : goal.returns-in_err-entries-2-clause-no_damage
+returns-in_err-entries-2-clause-no_damage g c = if_err_handed c.from_residual-in_err-entries-2.result (λ fault. IsDamage fault → ⊥) c.in_err-entries-2.field-0.0 c.from_residual-in_err-entries-2.ensures.1 c.in_err-entries-2.ensures.no_damage
+
+pub returns-clause-no_damage : goal.returns-clause-no_damage
+returns-clause-no_damage g c = tt
+
+pub returns-clause-cause : goal.returns-clause-cause
+returns-clause-cause g c = tt

@@ -11,6 +11,10 @@ use Rattle.even_indexes.specs.Levels.{pages_over, share_at}
 use Rattle.history_writes.specs.Indexed.{from_on}
 use Rattle.history_writes.proofs.Levels.{LevelTo, all_level, from_more, heads_more, more_level}
 use Rattle.history_writes.proofs.RowLinks.{in_pages, page_changes}
+use Rattle.ex_base.specs.declared.faults.PortFault.TheVariants.{Disk, Memory}
+use Rattle.ex_base.specs.Ports.{IsDamage}
+use Rattle.ex_base.proofs.Handed.{no_value, cause_here}
+use Rattle.ex_base.proofs.Results.{if_err_handed, cause_handed}
 use Rattle.history_writes.proofs.index.write_level.Goals as goal
 
 pub returns-in_err-write-clause-changes : goal.returns-in_err-write-clause-changes
@@ -80,3 +84,47 @@ returns-clause-level g c =
 
 pub returns-clause-heads : goal.returns-clause-heads
 returns-clause-heads g c = c.shares.invariant.heads ∙ ap (from_on c.args.level.first) (sym c.shares.invariant.count)
+
+-- ---- what else is promised
+
+pub returns-in_err-write-clause-level : goal.returns-in_err-write-clause-level
+returns-in_err-write-clause-level g c = no_value c.from_residual.result _ Disk c.from_residual.ensures.1
+
+pub returns-in_err-write-clause-count : goal.returns-in_err-write-clause-count
+returns-in_err-write-clause-count g c = no_value c.from_residual.result _ Disk c.from_residual.ensures.1
+
+pub returns-in_err-write-clause-heads : goal.returns-in_err-write-clause-heads
+returns-in_err-write-clause-heads g c = no_value c.from_residual.result _ Disk c.from_residual.ensures.1
+
+pub returns-in_err-write-clause-page : goal.returns-in_err-write-clause-page
+returns-in_err-write-clause-page g c = omega (arith, c.write_share-key.auto.out, c.shares.auto.page, c.requires.page)
+
+pub returns-in_err-write-clause-no_damage : goal.returns-in_err-write-clause-no_damage
+returns-in_err-write-clause-no_damage g c = if_err_handed c.from_residual.result (λ fault. IsDamage fault → ⊥) Disk c.from_residual.ensures.1 (λ is. is)
+
+pub returns-in_err-write-clause-cause : goal.returns-in_err-write-clause-cause
+returns-in_err-write-clause-cause g c = cause_handed (g.D.World.outside c.args.disk.now).disk_faults (g.D.World.outside c.shares.disk).disk_faults (g.D.World.outside c.write.new.self).disk_faults c.from_residual.result Disk c.from_residual.ensures.1 c.shares.invariant.changes.only.goes.disk_faults c.in_err-write.ensures.cause
+
+pub returns-in_err-put_entry-clause-level : goal.returns-in_err-put_entry-clause-level
+returns-in_err-put_entry-clause-level g c = no_value c.from_residual-in_err-put_entry.result _ Memory c.from_residual-in_err-put_entry.ensures.1
+
+pub returns-in_err-put_entry-clause-count : goal.returns-in_err-put_entry-clause-count
+returns-in_err-put_entry-clause-count g c = no_value c.from_residual-in_err-put_entry.result _ Memory c.from_residual-in_err-put_entry.ensures.1
+
+pub returns-in_err-put_entry-clause-heads : goal.returns-in_err-put_entry-clause-heads
+returns-in_err-put_entry-clause-heads g c = no_value c.from_residual-in_err-put_entry.result _ Memory c.from_residual-in_err-put_entry.ensures.1
+
+pub returns-in_err-put_entry-clause-page : goal.returns-in_err-put_entry-clause-page
+returns-in_err-put_entry-clause-page g c = omega (arith, c.write_share-key.auto.out, c.shares.auto.page, c.requires.page)
+
+pub returns-in_err-put_entry-clause-no_damage : goal.returns-in_err-put_entry-clause-no_damage
+returns-in_err-put_entry-clause-no_damage g c = if_err_handed c.from_residual-in_err-put_entry.result (λ fault. IsDamage fault → ⊥) Memory c.from_residual-in_err-put_entry.ensures.1 (λ is. is)
+
+pub returns-in_err-put_entry-clause-cause : goal.returns-in_err-put_entry-clause-cause
+returns-in_err-put_entry-clause-cause g c = cause_here (g.D.World.outside c.args.disk.now).disk_faults (g.D.World.outside c.write.new.self).disk_faults c.from_residual-in_err-put_entry.result Memory c.from_residual-in_err-put_entry.ensures.1 tt
+
+pub returns-clause-no_damage : goal.returns-clause-no_damage
+returns-clause-no_damage g c = tt
+
+pub returns-clause-cause : goal.returns-clause-cause
+returns-clause-cause g c = tt

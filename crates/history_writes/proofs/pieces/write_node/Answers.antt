@@ -2,9 +2,14 @@ use Rattle.std.proofs.Common.{◌≡◌, ◌*◌, ℕ, length, subst, ◌∙◌,
 use Rattle.std.specs.Prelude.{IsTrue}
 use Rattle.disk_model.specs.Calls.{Tears, Wrote}
 use Rattle.trees.specs.Rows.{parts_of}
-use Rattle.history_writes.specs.Places.{node_place}
+use Rattle.history_writes.specs.Places.{node_place, IsBehindCatalog}
 use Rattle.history_writes.proofs.Placing.{node_made, placed_pairs, row_fits}
 use Rattle.history_writes.proofs.Writing.{at_home, node_changes, node_written}
+use Rattle.ex_base.specs.declared.faults.PortFault.TheVariants.{Disk, Memory}
+use Rattle.ex_base.specs.Ports.{IsDamage}
+use Rattle.ex_base.proofs.Handed.{not_given, cause_here}
+use Rattle.ex_base.proofs.Results.{if_err_handed}
+use Rattle.disk_model.specs.Changes.{changes_refl}
 use Rattle.history_writes.proofs.pieces.write_node.Goals as goal
 
 pub write_node-requires-clause-room : goal.write_node-requires-clause-room
@@ -47,3 +52,41 @@ returns-clause-written g c =
     let made = node_made geo c.args.node.now c.deref.result.now c.write_node.new.out (length c.args.page.now) c.level.result c.requires.node row c.level.ensures c.write_node.auto.out c.write_node.ensures.page in
     node_written geo a b c.args.number c.write_node.new.out c.args.node.now (g.D.World.is_world c.args.disk.now) c.requires.room (subst (λ (k : ℕ). Wrote k c.write_node.new.out a b) at c.in_ok-write.ensures.written) c.requires.there c.requires.node
     (omega (arith, c.write_node.auto.out, c.requires.page)) made
+
+-- ---- what else is promised
+
+pub returns-in_err-place_children-clause-written : goal.returns-in_err-place_children-clause-written
+returns-in_err-place_children-clause-written g c = not_given c.from_residual.result _ Memory c.from_residual.ensures.1
+
+pub returns-in_err-place_children-clause-changes : goal.returns-in_err-place_children-clause-changes
+returns-in_err-place_children-clause-changes g c = changes_refl (IsBehindCatalog c.args.geometry.now) (g.D.World.outside c.args.disk.now)
+
+pub returns-in_err-place_children-clause-page : goal.returns-in_err-place_children-clause-page
+returns-in_err-place_children-clause-page g c = c.requires.page
+
+pub returns-in_err-place_children-clause-no_damage : goal.returns-in_err-place_children-clause-no_damage
+returns-in_err-place_children-clause-no_damage g c = if_err_handed c.from_residual.result (λ fault. IsDamage fault → ⊥) Memory c.from_residual.ensures.1 (λ is. is)
+
+pub returns-in_err-place_children-clause-cause : goal.returns-in_err-place_children-clause-cause
+returns-in_err-place_children-clause-cause g c = cause_here (g.D.World.outside c.args.disk.now).disk_faults (g.D.World.outside c.args.disk.now).disk_faults c.from_residual.result Memory c.from_residual.ensures.1 tt
+
+pub returns-in_err-write-clause-written : goal.returns-in_err-write-clause-written
+returns-in_err-write-clause-written g c = not_given c.from_residual-in_err-write.result _ Disk c.from_residual-in_err-write.ensures.1
+
+pub returns-in_err-write-clause-page : goal.returns-in_err-write-clause-page
+returns-in_err-write-clause-page g c = omega (arith, c.write_node.auto.out, c.requires.page)
+
+pub returns-in_err-write-clause-no_damage : goal.returns-in_err-write-clause-no_damage
+returns-in_err-write-clause-no_damage g c = if_err_handed c.from_residual-in_err-write.result (λ fault. IsDamage fault → ⊥) Disk c.from_residual-in_err-write.ensures.1 (λ is. is)
+
+pub returns-in_err-write-clause-cause : goal.returns-in_err-write-clause-cause
+returns-in_err-write-clause-cause g c = cause_here (g.D.World.outside c.args.disk.now).disk_faults (g.D.World.outside c.write.new.self).disk_faults c.from_residual-in_err-write.result Disk c.from_residual-in_err-write.ensures.1 c.in_err-write.ensures.cause
+
+pub returns-clause-page : goal.returns-clause-page
+returns-clause-page g c = omega (arith, c.write_node.auto.out, c.requires.page)
+
+pub returns-clause-no_damage : goal.returns-clause-no_damage
+returns-clause-no_damage g c = tt
+
+pub returns-clause-cause : goal.returns-clause-cause
+returns-clause-cause g c = tt

@@ -6,6 +6,7 @@ use Rattle.history_links.specs.declared.Links.{Links}
 use Rattle.history_writes.specs.declared.rows.LinkFault.TheVariants.{Bad}
 use Rattle.history_writes.specs.Linked.{HasNone, LinksPage}
 use Rattle.history_writes.proofs.RowLinks.{in_pages, more_linked, never_linked, rest_of, same_fault}
+use Rattle.ex_base.proofs.Handed.{not_given}
 use Rattle.history_writes.proofs.rows.link_pages.Goals as goal
 
 pub returns-in_err-done-clause-bad : goal.returns-in_err-done-clause-bad
@@ -43,3 +44,8 @@ pages-preserved g c =
           (subst (λ (ls : List Links). LinksPage c.args.geometry.now mid b (c.args.first.0 + c.pages.index) ls) (rest_of c.pages.done c.args.links.now) c.in_ok-done.ensures.linked) c.in_ok-done.ensures.count;
       changes = changes_trans c.pages.invariant.changes (in_pages c.args.geometry.now mid b c.args.first.0 (c.args.first.0 + c.pages.index) area (omega arith) c.link_page.ensures.changes);
     }
+
+-- ---- what else is promised
+
+pub returns-in_err-done-clause-linked : goal.returns-in_err-done-clause-linked
+returns-in_err-done-clause-linked g c = not_given c.from_residual.result _ c.in_err-done.field-0.0 c.from_residual.ensures.1

@@ -4,6 +4,7 @@ use Rattle.history_dump.specs.Positions.{IsAt, is_end, position_after, stream_fr
 use Rattle.history_dump.specs.declared.items.Items.{Items}
 use Rattle.history_dump.specs.declared.position.Position.{Position}
 use Rattle.history_dump.proofs.Giving.{end_left, end_settled, ended, left_len, left_none, made_on, settled_is, shown_by}
+use Rattle.ex_base.proofs.Keeping.{keeps_refl}
 use Rattle.history_dump.proofs.dumper.Dumper.advance.Goals as goal
 
 pub returns-then-self-clause-at_end : goal.returns-then-self-clause-at_end
@@ -39,3 +40,54 @@ returns-clause-made g c = λ told v h at is.
 pub returns-clause-at_end : goal.returns-clause-at_end
 returns-clause-at_end g c = λ told v h is.
     absurd (let e : false ≡ true = sym (sym c.is_end.ensures ∙ c.if-is_end.false) ∙ ap is_end c.settled-position.ensures.is ∙ end_settled g.V.Ground c.args.volume.now v h c.args.self.now is in cc)
+
+pub returns-then-self-clause-sound : goal.returns-then-self-clause-sound
+returns-then-self-clause-sound g c = tt
+
+pub returns-then-self-clause-kept : goal.returns-then-self-clause-kept
+returns-then-self-clause-kept g c = keeps_refl g.V.Ground c.args.volume.now
+
+pub returns-then-self-clause-cause : goal.returns-then-self-clause-cause
+returns-then-self-clause-cause g c = tt
+
+pub returns-then-is_end-clause-sound : goal.returns-then-is_end-clause-sound
+returns-then-is_end-clause-sound g c = tt
+
+pub returns-then-is_end-clause-kept : goal.returns-then-is_end-clause-kept
+returns-then-is_end-clause-kept g c = keeps_refl g.V.Ground c.args.volume.now
+
+pub returns-then-is_end-clause-cause : goal.returns-then-is_end-clause-cause
+returns-then-is_end-clause-cause g c = tt
+
+pub returns-then-self-clause-made : goal.returns-then-self-clause-made
+returns-then-self-clause-made g c = λ told v h at is. is
+
+pub put-requires-clause-ready : goal.put-requires-clause-ready
+put-requires-clause-ready g c = c.requires.ready
+
+pub returns-in-Err-clause-made : goal.returns-in-Err-clause-made
+returns-in-Err-clause-made g c = tt
+
+pub returns-in-Err-clause-some : goal.returns-in-Err-clause-some
+returns-in-Err-clause-some g c = tt
+
+pub returns-in-Err-clause-none : goal.returns-in-Err-clause-none
+returns-in-Err-clause-none g c = tt
+
+pub returns-in-Err-clause-kept : goal.returns-in-Err-clause-kept
+returns-in-Err-clause-kept g c = c.in-Err.ensures.kept
+
+pub returns-in-Err-clause-cause : goal.returns-in-Err-clause-cause
+returns-in-Err-clause-cause g c = c.in-Err.ensures.cause
+
+pub returns-clause-sound : goal.returns-clause-sound
+returns-clause-sound g c = tt
+
+pub returns-clause-kept : goal.returns-clause-kept
+returns-clause-kept g c = c.in-Ok.ensures.kept
+
+pub returns-clause-cause : goal.returns-clause-cause
+returns-clause-cause g c = tt
+
+pub returns-then-is_end-clause-none : goal.returns-then-is_end-clause-none
+returns-then-is_end-clause-none g c = λ no. (left_none c.args.self.now (omega (arith, c.if-self.false)), sym c.is_end.ensures ∙ c.if-is_end.true)

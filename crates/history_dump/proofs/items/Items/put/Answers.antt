@@ -5,6 +5,7 @@ use Rattle.history_dump.proofs.Results.{ok_both}
 use Rattle.history_dump.specs.Positions.{IsAt, IsThere, position_after, stream_from}
 use Rattle.history_dump.specs.declared.position.Position.{Position}
 use Rattle.history_dump.proofs.Putting.{file_put, file_there, head_put, leaf_put, leaf_there, node_put, node_there, version_put, version_there}
+use Rattle.ex_base.proofs.Keeping.{keeps_refl}
 use Rattle.history_dump.proofs.items.Items.put.Goals as goal
 
 pub returns-in-Head-clause-item : goal.returns-in-Head-clause-item
@@ -72,3 +73,84 @@ returns-in-Version-clause-sound g c =
     let v = version_there g.V.Ground c.args.volume.now c.args.self.now.plan h shows c.in-Version.next c.in-Version.at c.args.self.now.records.items c.index.result.now
     (subst (λ (p : Position). IsAt (g.V.Ground.image c.args.volume.now) h p c.args.self.now.records.items) c.in-Version.is at) row in
     never damage told v.0 v.1 v.3) c.put_version.ensures.sound
+
+pub put_leaf-requires-clause-ready : goal.put_leaf-requires-clause-ready
+put_leaf-requires-clause-ready g c = c.requires.ready
+
+pub put_leaf-requires-clause-room : goal.put_leaf-requires-clause-room
+put_leaf-requires-clause-room g c = c.requires.room
+
+pub returns-in-Leaf-clause-some : goal.returns-in-Leaf-clause-some
+returns-in-Leaf-clause-some g c = c.put_leaf.ensures.some
+
+pub returns-in-Leaf-clause-inside : goal.returns-in-Leaf-clause-inside
+returns-in-Leaf-clause-inside g c = c.put_leaf.ensures.inside
+
+pub returns-in-Leaf-clause-kept : goal.returns-in-Leaf-clause-kept
+returns-in-Leaf-clause-kept g c = c.put_leaf.ensures.kept
+
+pub returns-in-Leaf-clause-cause : goal.returns-in-Leaf-clause-cause
+returns-in-Leaf-clause-cause g c = c.put_leaf.ensures.cause
+
+pub put_node-requires-clause-ready : goal.put_node-requires-clause-ready
+put_node-requires-clause-ready g c = c.requires.ready
+
+pub put_node-requires-clause-room : goal.put_node-requires-clause-room
+put_node-requires-clause-room g c = c.requires.room
+
+pub returns-in-Node-clause-some : goal.returns-in-Node-clause-some
+returns-in-Node-clause-some g c = c.put_node.ensures.some
+
+pub returns-in-Node-clause-inside : goal.returns-in-Node-clause-inside
+returns-in-Node-clause-inside g c = c.put_node.ensures.inside
+
+pub returns-in-Node-clause-kept : goal.returns-in-Node-clause-kept
+returns-in-Node-clause-kept g c = c.put_node.ensures.kept
+
+pub returns-in-Node-clause-cause : goal.returns-in-Node-clause-cause
+returns-in-Node-clause-cause g c = c.put_node.ensures.cause
+
+pub put_file-requires-clause-ready : goal.put_file-requires-clause-ready
+put_file-requires-clause-ready g c = c.requires.ready
+
+pub put_file-requires-clause-room : goal.put_file-requires-clause-room
+put_file-requires-clause-room g c = c.requires.room
+
+pub returns-in-File-clause-some : goal.returns-in-File-clause-some
+returns-in-File-clause-some g c = c.put_file.ensures.some
+
+pub returns-in-File-clause-inside : goal.returns-in-File-clause-inside
+returns-in-File-clause-inside g c = c.put_file.ensures.inside
+
+pub returns-in-File-clause-kept : goal.returns-in-File-clause-kept
+returns-in-File-clause-kept g c = c.put_file.ensures.kept
+
+pub returns-in-File-clause-cause : goal.returns-in-File-clause-cause
+returns-in-File-clause-cause g c = c.put_file.ensures.cause
+
+pub put_version-requires-clause-ready : goal.put_version-requires-clause-ready
+put_version-requires-clause-ready g c = c.requires.ready
+
+pub put_version-requires-clause-room : goal.put_version-requires-clause-room
+put_version-requires-clause-room g c = c.requires.room
+
+pub returns-in-Version-clause-some : goal.returns-in-Version-clause-some
+returns-in-Version-clause-some g c = c.put_version.ensures.some
+
+pub returns-in-Version-clause-inside : goal.returns-in-Version-clause-inside
+returns-in-Version-clause-inside g c = c.put_version.ensures.inside
+
+pub returns-in-Version-clause-kept : goal.returns-in-Version-clause-kept
+returns-in-Version-clause-kept g c = c.put_version.ensures.kept
+
+pub returns-in-Version-clause-cause : goal.returns-in-Version-clause-cause
+returns-in-Version-clause-cause g c = c.put_version.ensures.cause
+
+pub returns-in-Head-clause-sound : goal.returns-in-Head-clause-sound
+returns-in-Head-clause-sound g c = tt
+
+pub returns-in-Head-clause-kept : goal.returns-in-Head-clause-kept
+returns-in-Head-clause-kept g c = keeps_refl g.V.Ground c.args.volume.now
+
+pub returns-in-Head-clause-cause : goal.returns-in-Head-clause-cause
+returns-in-Head-clause-cause g c = tt

@@ -4,6 +4,10 @@ use Rattle.object_files.specs.Catalog.{name_of}
 use Rattle.object_files.specs.Edits.{IsCatalogPage, entries_on, indexed}
 use Rattle.object_files.proofs.EntryLists.{names-indexed}
 use Rattle.history_load.proofs.Entries.{entries_are, is_page}
+use Rattle.ex_base.proofs.Results.{if_err_handed}
+use Rattle.history_load.specs.Faults.{IsOfStream, LoadCause, fault_of_port}
+use Rattle.ex_base.proofs.Handed.{not_given}
+use Rattle.history_load.proofs.Causes.{port_cause, port_no_stream}
 use Rattle.history_load.proofs.files_at_hand.FilesAtHand.index_file.Goals as goal
 
 pub returns-clause-indexes : goal.returns-clause-indexes
@@ -36,3 +40,29 @@ returns-clause-ready g c =
       behind = omega (arith, was.behind, c.requires.file.first, c.in_ok-end.ensures.behind);
       desk = record { read = was.desk.read; page = ap (λ (b : List ℕ). length b) desk ∙ c.in_ok-end.ensures.page; body = was.desk.body };
     }
+
+-- ---- what else is promised
+
+pub returns-in_err-end-clause-indexes : goal.returns-in_err-end-clause-indexes
+returns-in_err-end-clause-indexes g c = not_given c.from_residual.result _ (fault_of_port c.in_err-end.field-0.0) c.from_residual.ensures.1
+
+pub returns-in_err-end-clause-ready : goal.returns-in_err-end-clause-ready
+returns-in_err-end-clause-ready g c = not_given c.from_residual.result _ (fault_of_port c.in_err-end.field-0.0) c.from_residual.ensures.1
+
+pub returns-in_err-end-clause-no_fault : goal.returns-in_err-end-clause-no_fault
+returns-in_err-end-clause-no_fault g c = if_err_handed c.from_residual.result (λ fault. IsOfStream fault → ⊥) (fault_of_port c.in_err-end.field-0.0) c.from_residual.ensures.1 (port_no_stream c.in_err-end.field-0.0 c.in_err-end.ensures.no_damage)
+
+pub returns-in_err-end-clause-changes : goal.returns-in_err-end-clause-changes
+returns-in_err-end-clause-changes g c = c.write_index_over.ensures.changes
+
+pub returns-in_err-end-clause-cause : goal.returns-in_err-end-clause-cause
+returns-in_err-end-clause-cause g c = if_err_handed c.from_residual.result (LoadCause (g.D.World.outside c.args.disk.now) (g.D.World.outside c.write_index_over.new.disk)) (fault_of_port c.in_err-end.field-0.0) c.from_residual.ensures.1 (port_cause (g.D.World.outside c.args.disk.now) (g.D.World.outside c.write_index_over.new.disk) c.in_err-end.field-0.0 c.in_err-end.ensures.cause)
+
+pub returns-clause-no_fault : goal.returns-clause-no_fault
+returns-clause-no_fault g c = tt
+
+pub returns-clause-changes : goal.returns-clause-changes
+returns-clause-changes g c = c.write_index_over.ensures.changes
+
+pub returns-clause-cause : goal.returns-clause-cause
+returns-clause-cause g c = tt

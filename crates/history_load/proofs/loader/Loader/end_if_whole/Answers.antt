@@ -3,10 +3,11 @@ use Rattle.disk_model.specs.Changes.{changes_refl}
 use Rattle.ex_base.proofs.Results.{if_err_handed}
 use Rattle.history_writes.specs.Places.{InPagesFrom}
 use Rattle.history_load.specs.AtHand.{CantEnd}
-use Rattle.history_load.specs.Faults.{WhereBad}
+use Rattle.history_load.specs.Faults.{WhereBad, LoadCause}
 use Rattle.history_load.specs.Loading.{NoneIsLaid, StandTo, page_behind}
 use Rattle.history_load.proofs.Causes.{where_as}
 use Rattle.history_load.proofs.Wholeness.{kept_ended, kept_open, made_anew, none_laid, room_for_file, stand_ended, stand_open}
+use Rattle.ex_base.proofs.Handed.{not_given}
 use Rattle.history_load.proofs.loader.Loader.end_if_whole.Goals as goal
 
 pub end_file-requires-clause-there : goal.end_file-requires-clause-there
@@ -47,3 +48,50 @@ returns-in_err-end_file-clause-only g c = record { progress = made_anew c.args.s
 
 pub returns-clause-only : goal.returns-clause-only
 returns-clause-only g c = record { progress = made_anew c.args.self.now.progress _ _ _ _; gathered = refl }
+
+-- ---- what else is promised
+
+pub end_file-requires-clause-room : goal.end_file-requires-clause-room
+end_file-requires-clause-room g c = c.requires.room
+
+pub end_file-requires-clause-file : goal.end_file-requires-clause-file
+end_file-requires-clause-file g c = c.requires.open.of.file
+
+pub returns-then-self-gt0-clause-refused : goal.returns-then-self-gt0-clause-refused
+returns-then-self-gt0-clause-refused g c = tt
+
+pub returns-then-self-gt0-clause-only : goal.returns-then-self-gt0-clause-only
+returns-then-self-gt0-clause-only g c = record { progress = refl; gathered = refl }
+
+pub returns-then-self-gt0-clause-count : goal.returns-then-self-gt0-clause-count
+returns-then-self-gt0-clause-count g c = refl
+
+pub returns-then-self-gt0-clause-cause : goal.returns-then-self-gt0-clause-cause
+returns-then-self-gt0-clause-cause g c = tt
+
+pub returns-in_err-end_file-clause-keeps : goal.returns-in_err-end_file-clause-keeps
+returns-in_err-end_file-clause-keeps g c = not_given c.from_residual.result _ c.in_err-end_file.field-0.0 c.from_residual.ensures.1
+
+pub returns-in_err-end_file-clause-stands : goal.returns-in_err-end_file-clause-stands
+returns-in_err-end_file-clause-stands g c = not_given c.from_residual.result _ c.in_err-end_file.field-0.0 c.from_residual.ensures.1
+
+pub returns-in_err-end_file-clause-count : goal.returns-in_err-end_file-clause-count
+returns-in_err-end_file-clause-count g c = not_given c.from_residual.result _ c.in_err-end_file.field-0.0 c.from_residual.ensures.1
+
+pub returns-in_err-end_file-clause-changes : goal.returns-in_err-end_file-clause-changes
+returns-in_err-end_file-clause-changes g c = c.end_file.ensures.changes
+
+pub returns-in_err-end_file-clause-cause : goal.returns-in_err-end_file-clause-cause
+returns-in_err-end_file-clause-cause g c = if_err_handed c.from_residual.result (LoadCause (g.D.World.outside c.args.disk.now) (g.D.World.outside c.end_file.new.disk)) c.in_err-end_file.field-0.0 c.from_residual.ensures.1 c.in_err-end_file.ensures.cause
+
+pub returns-clause-refused : goal.returns-clause-refused
+returns-clause-refused g c = tt
+
+pub returns-clause-count : goal.returns-clause-count
+returns-clause-count g c = c.in_ok-end_file.ensures.within.count
+
+pub returns-clause-changes : goal.returns-clause-changes
+returns-clause-changes g c = c.end_file.ensures.changes
+
+pub returns-clause-cause : goal.returns-clause-cause
+returns-clause-cause g c = tt

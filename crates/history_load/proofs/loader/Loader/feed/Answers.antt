@@ -7,12 +7,13 @@ use Rattle.ex_base.proofs.Results.{if_err_handed}
 use Rattle.history_items.specs.Gathering.{item_most}
 use Rattle.history_reads.specs.declared.steps.Filled.TheVariants.{More, Refused, Whole}
 use Rattle.history_writes.specs.Places.{IsBehindCatalog}
-use Rattle.history_load.specs.Faults.{WhereBad}
+use Rattle.history_load.specs.Faults.{WhereBad, LoadCause}
 use Rattle.history_load.specs.Loading.{HasWholeItem, IsLoader, LoadsPiece, RefusesItem, RefusesPiece, TakesItem}
-use Rattle.history_load.proofs.Causes.{where_as}
+use Rattle.history_load.proofs.Causes.{where_as, cause_since}
 use Rattle.history_load.specs.declared.loader.Loader.{Loader}
 use Rattle.history_load.proofs.Wholeness.{made_anew}
 use Rattle.history_load.proofs.PiecesFed.{asks_more, loader_more, loads_item, loads_more, loads_none, refused_fill, refilled, refused_item, rest_filled, unfilled, whole_more}
+use Rattle.ex_base.proofs.Handed.{not_given}
 use Rattle.history_load.proofs.loader.Loader.feed.Goals as goal
 
 pub items-init : goal.items-init
@@ -93,3 +94,47 @@ pub returns-clause-loads : goal.returns-clause-loads
 returns-clause-loads g c =
     let all : take c.items.at c.args.piece.now ≡ c.args.piece.now = take_all c.items.at c.args.piece.now (omega (arith, c.items-test.false)) in
     subst (λ (bytes : List ℕ). LoadsPiece c.args.self.now.progress.geometry (g.D.World.outside c.args.disk.now) (g.D.World.outside c.items.disk) c.args.self.now c.items.self bytes) all c.items.invariant.loads
+
+-- ---- what else is promised
+
+pub returns-in_err-take_item-in-Whole-clause-loads : goal.returns-in_err-take_item-in-Whole-clause-loads
+returns-in_err-take_item-in-Whole-clause-loads g c = not_given c.from_residual.result _ c.in_err-take_item-in-Whole.field-0.0 c.from_residual.ensures.1
+
+pub returns-in_err-take_item-in-Whole-clause-is : goal.returns-in_err-take_item-in-Whole-clause-is
+returns-in_err-take_item-in-Whole-clause-is g c = not_given c.from_residual.result _ c.in_err-take_item-in-Whole.field-0.0 c.from_residual.ensures.1
+
+pub returns-in_err-take_item-in-Whole-clause-stream : goal.returns-in_err-take_item-in-Whole-clause-stream
+returns-in_err-take_item-in-Whole-clause-stream g c = (c.take_item.ensures.stream.0 ∙ c.items.invariant.stream.0, c.take_item.ensures.stream.1 ∙ c.items.invariant.stream.1)
+
+pub returns-in_err-take_item-in-Whole-clause-cause : goal.returns-in_err-take_item-in-Whole-clause-cause
+returns-in_err-take_item-in-Whole-clause-cause g c = if_err_handed c.from_residual.result (LoadCause (g.D.World.outside c.args.disk.now) (g.D.World.outside c.take_item.new.disk)) c.in_err-take_item-in-Whole.field-0.0 c.from_residual.ensures.1 (cause_since (g.D.World.outside c.args.disk.now) (g.D.World.outside c.items.disk) (g.D.World.outside c.take_item.new.disk) c.in_err-take_item-in-Whole.field-0.0 c.items.invariant.changes.only.goes.disk_faults c.items.invariant.changes.only.goes.read_faults c.in_err-take_item-in-Whole.ensures.cause)
+
+pub returns-in-Refused-clause-loads : goal.returns-in-Refused-clause-loads
+returns-in-Refused-clause-loads g c = tt
+
+pub returns-in-Refused-clause-is : goal.returns-in-Refused-clause-is
+returns-in-Refused-clause-is g c = tt
+
+pub returns-in-Refused-clause-stream : goal.returns-in-Refused-clause-stream
+returns-in-Refused-clause-stream g c = c.items.invariant.stream
+
+pub returns-in-Refused-clause-changes : goal.returns-in-Refused-clause-changes
+returns-in-Refused-clause-changes g c = c.items.invariant.changes
+
+pub returns-in-Refused-clause-cause : goal.returns-in-Refused-clause-cause
+returns-in-Refused-clause-cause g c = tt
+
+pub returns-clause-refused : goal.returns-clause-refused
+returns-clause-refused g c = tt
+
+pub returns-clause-is : goal.returns-clause-is
+returns-clause-is g c = c.items.invariant.is
+
+pub returns-clause-stream : goal.returns-clause-stream
+returns-clause-stream g c = c.items.invariant.stream
+
+pub returns-clause-changes : goal.returns-clause-changes
+returns-clause-changes g c = c.items.invariant.changes
+
+pub returns-clause-cause : goal.returns-clause-cause
+returns-clause-cause g c = tt

@@ -1,6 +1,6 @@
 use Rattle.std.proofs.Common.{◌≤◌, ◌+◌, ℕ, Err, List, length, map, refl, sym, ap, subst, ◌∙◌, arith}
 use Rattle.std.specs.Prelude.{Contains, slice_index}
-use Rattle.disk_model.specs.Changes.{ChangesWithin}
+use Rattle.disk_model.specs.Changes.{ChangesWithin, changes_refl}
 use Rattle.ex_base.specs.declared.geometry.Geometry.{Geometry}
 use Rattle.ex_base.specs.Sizes.{volume_bytes}
 use Rattle.ex_base.proofs.Results.{if_err_handed}
@@ -9,15 +9,16 @@ use Rattle.object_files.specs.Edits.{entries_on}
 use Rattle.history_reads.specs.Reads.{HasItem}
 use Rattle.history_reads.specs.declared.progress.Progress.{Progress}
 use Rattle.history_reads.proofs.Items.{front_read}
-use Rattle.history_writes.specs.Places.{InPagesFrom}
+use Rattle.history_writes.specs.Places.{InPagesFrom, IsBehindCatalog}
 use Rattle.history_load.specs.AtHand.{IsReady}
-use Rattle.history_load.specs.Faults.{WhereBad}
+use Rattle.history_load.specs.Faults.{WhereBad, LoadCause, fault_of_read}
 use Rattle.history_load.specs.Loading.{RefusesItem}
-use Rattle.history_load.proofs.Causes.{read_bad}
+use Rattle.history_load.proofs.Causes.{read_bad, read_cause}
 use Rattle.history_load.proofs.Closing.{behind_catalog}
 use Rattle.history_load.proofs.Facts.{file_is}
 use Rattle.history_load.proofs.FileHeads.{head_long, head_open, head_refused, head_took, name_unused, ready_for_file, room_for_entry}
 use Rattle.history_load.proofs.Names.{name_is}
+use Rattle.ex_base.proofs.Handed.{not_given}
 use Rattle.history_load.proofs.loader.Loader.take_file.Goals as goal
 
 pub read_file_head-requires-clause-some : goal.read_file_head-requires-clause-some
@@ -132,3 +133,29 @@ returns-clause-changes g c =
     behind_catalog c.args.self.now.progress.geometry c.args.self.now.files.next (g.D.World.outside c.args.disk.now) (g.D.World.outside c.end_if_whole.new.disk) (omega (arith, c.requires.is.of.behind))
     (subst (λ (n : ℕ). ChangesWithin (InPagesFrom c.args.self.now.progress.geometry n) (g.D.World.outside c.args.disk.now) (g.D.World.outside c.end_if_whole.new.disk)) c.begin_file.ensures.begins.next
     (subst (λ (k : Geometry). ChangesWithin (InPagesFrom k c.begin_file.new.self.next) (g.D.World.outside c.args.disk.now) (g.D.World.outside c.end_if_whole.new.disk)) c.accept.ensures.stream.0 c.end_if_whole.ensures.changes))
+
+-- ---- what else is promised
+
+pub returns-in_err-accept-clause-took : goal.returns-in_err-accept-clause-took
+returns-in_err-accept-clause-took g c = not_given c.from_residual.result _ (fault_of_read c.in_err-accept.field-0.0) c.from_residual.ensures.1
+
+pub returns-in_err-accept-clause-stream : goal.returns-in_err-accept-clause-stream
+returns-in_err-accept-clause-stream g c = c.accept.ensures.stream
+
+pub returns-in_err-accept-clause-changes : goal.returns-in_err-accept-clause-changes
+returns-in_err-accept-clause-changes g c = changes_refl (IsBehindCatalog c.args.self.now.progress.geometry) (g.D.World.outside c.args.disk.now)
+
+pub returns-in_err-accept-clause-cause : goal.returns-in_err-accept-clause-cause
+returns-in_err-accept-clause-cause g c = if_err_handed c.from_residual.result (LoadCause (g.D.World.outside c.args.disk.now) (g.D.World.outside c.args.disk.now)) (fault_of_read c.in_err-accept.field-0.0) c.from_residual.ensures.1 (read_cause (g.D.World.outside c.args.disk.now) (g.D.World.outside c.args.disk.now) c.in_err-accept.field-0.0)
+
+pub returns-in_err-end_if_whole-clause-took : goal.returns-in_err-end_if_whole-clause-took
+returns-in_err-end_if_whole-clause-took g c = not_given c.from_residual-in_err-end_if_whole.result _ c.in_err-end_if_whole.field-0.0 c.from_residual-in_err-end_if_whole.ensures.1
+
+pub returns-in_err-end_if_whole-clause-cause : goal.returns-in_err-end_if_whole-clause-cause
+returns-in_err-end_if_whole-clause-cause g c = if_err_handed c.from_residual-in_err-end_if_whole.result (LoadCause (g.D.World.outside c.args.disk.now) (g.D.World.outside c.end_if_whole.new.disk)) c.in_err-end_if_whole.field-0.0 c.from_residual-in_err-end_if_whole.ensures.1 c.in_err-end_if_whole.ensures.cause
+
+pub returns-clause-refused : goal.returns-clause-refused
+returns-clause-refused g c = tt
+
+pub returns-clause-cause : goal.returns-clause-cause
+returns-clause-cause g c = tt

@@ -1,5 +1,5 @@
-use Rattle.std.proofs.Common.{◌≡◌, ◌≤◌, ℕ, List, [], ◌∷◌, ◌++◌, length, map, refl, sym, ap, subst, ◌∙◌, arith}
-use Rattle.disk_model.specs.Changes.{ChangesWithin, changes_trans}
+use Rattle.std.proofs.Common.{◌≡◌, ◌≤◌, ℕ, List, [], ◌∷◌, ◌++◌, length, map, refl, sym, ap, subst, ◌∙◌, arith, Err}
+use Rattle.disk_model.specs.Changes.{ChangesWithin, changes_trans, changes_refl}
 use Rattle.ex_base.specs.declared.geometry.Geometry.{Geometry}
 use Rattle.ex_base.specs.Order.{Rising}
 use Rattle.ex_base.proofs.Results.{if_err_handed}
@@ -9,14 +9,16 @@ use Rattle.history_model.specs.History.{HistoryVersion}
 use Rattle.history_model.specs.Items.{IsVersionItem}
 use Rattle.history_reads.specs.declared.progress.Progress.{Progress}
 use Rattle.history_reads.specs.Reads.{HasItem}
-use Rattle.history_writes.specs.Places.{InPagesFrom}
+use Rattle.history_writes.specs.Places.{InPagesFrom, IsBehindCatalog}
 use Rattle.history_load.specs.AtHand.{HasFile, HasRoomForRecord}
-use Rattle.history_load.specs.Faults.{WhereBad}
+use Rattle.history_load.specs.Faults.{WhereBad, LoadCause, fault_of_read}
 use Rattle.history_load.specs.Loading.{NoneIsLaid, RefusesItem}
-use Rattle.history_load.proofs.Causes.{where_as}
+use Rattle.history_load.proofs.Causes.{where_as, cause_since, where_none, read_bad, read_cause}
 use Rattle.history_load.proofs.Closing.{behind_catalog}
 use Rattle.history_load.proofs.Facts.{version_is}
 use Rattle.history_load.proofs.VersionsTaken.{few_versions, file_kept, file_missing, put_has_open, put_refuses, room_for_record, version_fits, version_loads, version_long, version_put, version_taken}
+use Rattle.ex_base.specs.Sizes.{volume_bytes}
+use Rattle.ex_base.proofs.Handed.{not_given}
 use Rattle.history_load.proofs.loader.Loader.take_version.Goals as goal
 
 pub read_version-version-requires-clause-head : goal.read_version-version-requires-clause-head
@@ -135,3 +137,49 @@ returns-clause-changes g c =
     (subst (λ (h : Geometry). ChangesWithin (InPagesFrom h c.args.self.now.files.next) (g.D.World.outside c.args.disk.now) (g.D.World.outside c.put_version.new.disk)) c.accept.ensures.stream.0 c.put_version.ensures.changes))
     (behind_catalog c.args.self.now.progress.geometry c.put_version.new.self.next (g.D.World.outside c.put_version.new.disk) (g.D.World.outside c.end_if_whole.new.disk) (omega (arith, c.requires.is.of.behind, c.in_ok-put_version.ensures.counts.next))
     (subst (λ (h : Geometry). ChangesWithin (InPagesFrom h c.put_version.new.self.next) (g.D.World.outside c.put_version.new.disk) (g.D.World.outside c.end_if_whole.new.disk)) c.accept.ensures.stream.0 c.end_if_whole.ensures.changes))
+
+-- ---- what else is promised
+
+pub returns-in_err-accept-clause-took : goal.returns-in_err-accept-clause-took
+returns-in_err-accept-clause-took g c = not_given c.from_residual.result _ (fault_of_read c.in_err-accept.field-0.0) c.from_residual.ensures.1
+
+pub returns-in_err-accept-clause-refused : goal.returns-in_err-accept-clause-refused
+returns-in_err-accept-clause-refused g c = read_bad c.from_residual.result c.in_err-accept.field-0.0 (RefusesItem c.args.self.now.progress.geometry (g.D.World.outside c.args.disk.now) c.args.self.now) c.from_residual.ensures.1
+    (λ refused image joined honest holds before.
+    c.accept.ensures.refused (c.in_err-accept.was ∙ ap Err refused) c.args.self.now.progress.geometry joined (subst (λ (held : List ℕ). HasItem c.args.self.now.progress.geometry joined c.args.self.now.progress held) (sym c.as_slice.ensures) before.item))
+
+pub returns-in_err-accept-clause-stream : goal.returns-in_err-accept-clause-stream
+returns-in_err-accept-clause-stream g c = c.accept.ensures.stream
+
+pub returns-in_err-accept-clause-changes : goal.returns-in_err-accept-clause-changes
+returns-in_err-accept-clause-changes g c = changes_refl (IsBehindCatalog c.args.self.now.progress.geometry) (g.D.World.outside c.args.disk.now)
+
+pub returns-in_err-accept-clause-cause : goal.returns-in_err-accept-clause-cause
+returns-in_err-accept-clause-cause g c = if_err_handed c.from_residual.result (LoadCause (g.D.World.outside c.args.disk.now) (g.D.World.outside c.args.disk.now)) (fault_of_read c.in_err-accept.field-0.0) c.from_residual.ensures.1 (read_cause (g.D.World.outside c.args.disk.now) (g.D.World.outside c.args.disk.now) c.in_err-accept.field-0.0)
+
+pub returns-in_err-put_version-clause-took : goal.returns-in_err-put_version-clause-took
+returns-in_err-put_version-clause-took g c = not_given c.from_residual-in_err-put_version.result _ c.in_err-put_version.field-0.0 c.from_residual-in_err-put_version.ensures.1
+
+pub returns-in_err-put_version-clause-refused : goal.returns-in_err-put_version-clause-refused
+returns-in_err-put_version-clause-refused g c = if_err_handed c.from_residual-in_err-put_version.result (WhereBad (RefusesItem c.args.self.now.progress.geometry (g.D.World.outside c.args.disk.now) c.args.self.now)) c.in_err-put_version.field-0.0 c.from_residual-in_err-put_version.ensures.1 (where_none (RefusesItem c.args.self.now.progress.geometry (g.D.World.outside c.args.disk.now) c.args.self.now) c.in_err-put_version.field-0.0 c.in_err-put_version.ensures.no_fault)
+
+pub returns-in_err-put_version-clause-stream : goal.returns-in_err-put_version-clause-stream
+returns-in_err-put_version-clause-stream g c = c.accept.ensures.stream
+
+pub returns-in_err-put_version-clause-cause : goal.returns-in_err-put_version-clause-cause
+returns-in_err-put_version-clause-cause g c = if_err_handed c.from_residual-in_err-put_version.result (LoadCause (g.D.World.outside c.args.disk.now) (g.D.World.outside c.put_version.new.disk)) c.in_err-put_version.field-0.0 c.from_residual-in_err-put_version.ensures.1 c.in_err-put_version.ensures.cause
+
+pub returns-in_err-end_if_whole-clause-took : goal.returns-in_err-end_if_whole-clause-took
+returns-in_err-end_if_whole-clause-took g c = not_given c.from_residual-in_err-end_if_whole.result _ c.in_err-end_if_whole.field-0.0 c.from_residual-in_err-end_if_whole.ensures.1
+
+pub returns-in_err-end_if_whole-clause-cause : goal.returns-in_err-end_if_whole-clause-cause
+returns-in_err-end_if_whole-clause-cause g c = if_err_handed c.from_residual-in_err-end_if_whole.result (LoadCause (g.D.World.outside c.args.disk.now) (g.D.World.outside c.end_if_whole.new.disk)) c.in_err-end_if_whole.field-0.0 c.from_residual-in_err-end_if_whole.ensures.1 (cause_since (g.D.World.outside c.args.disk.now) (g.D.World.outside c.put_version.new.disk) (g.D.World.outside c.end_if_whole.new.disk) c.in_err-end_if_whole.field-0.0 c.put_version.ensures.changes.only.goes.disk_faults c.put_version.ensures.changes.only.goes.read_faults c.in_err-end_if_whole.ensures.cause)
+
+pub put_version-requires-clause-room : goal.put_version-requires-clause-room
+put_version-requires-clause-room g c = subst (λ (k : Geometry). volume_bytes k ≤ (g.D.World.outside c.args.disk.now).size) (sym c.accept.ensures.stream.0) c.requires.room
+
+pub returns-clause-refused : goal.returns-clause-refused
+returns-clause-refused g c = tt
+
+pub returns-clause-cause : goal.returns-clause-cause
+returns-clause-cause g c = tt

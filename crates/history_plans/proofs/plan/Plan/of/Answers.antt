@@ -6,7 +6,9 @@ use Rattle.volume_edits.specs.Ported.{units_in}
 use Rattle.history_plans.specs.Files.{HasStored, roots_stored}
 use Rattle.history_plans.specs.Pieces.{IsClosed, LeavesRoots, PlannedPieces}
 use Rattle.history_plans.specs.Plans.{PlansOf}
-use Rattle.history_plans.proofs.Shown.{closed_mid, files_fit, files_mid, fit_mid, leaves_fit, left_back, named_mid, nodes_fit, pages_back, planned, shows_mid, trees_mid}
+use Rattle.history_plans.proofs.Shown.{closed_mid, files_fit, files_mid, fit_mid, leaves_fit, left_back, named_mid, nodes_fit, pages_back, planned, shows_mid, trees_mid, catalog_is}
+use Rattle.ex_base.proofs.Handed.{cause_after}
+use Rattle.ex_base.proofs.Keeping.{keeps_on}
 use Rattle.history_plans.proofs.plan.Plan.of.Goals as goal
 
 pub returns-in-Err-plan_files-clause-sound : goal.returns-in-Err-plan_files-clause-sound
@@ -52,3 +54,36 @@ returns-clause-sound g c = IfErr-weaker c.make.result _ _ (λ fault never damage
 
 pub returns-clause-cause : goal.returns-clause-cause
 returns-clause-cause g c = c.make.ensures.cause _ _
+
+pub read_contents-requires : goal.read_contents-requires
+read_contents-requires g c = c.requires
+
+pub plan_files-requires : goal.plan_files-requires
+plan_files-requires g c = g.V.Ground.leads_ready c.args.volume.now c.read_contents.new.volume c.in-Ok.ensures.kept.leads c.requires
+
+pub returns-in-Err-clause-plans : goal.returns-in-Err-clause-plans
+returns-in-Err-clause-plans g c = tt
+
+pub returns-in-Err-clause-kept : goal.returns-in-Err-clause-kept
+returns-in-Err-clause-kept g c = c.in-Err.ensures.kept
+
+pub returns-in-Err-clause-cause : goal.returns-in-Err-clause-cause
+returns-in-Err-clause-cause g c = c.in-Err.ensures.cause
+
+pub returns-in-Err-plan_files-clause-plans : goal.returns-in-Err-plan_files-clause-plans
+returns-in-Err-plan_files-clause-plans g c = tt
+
+pub returns-in-Err-plan_files-clause-kept : goal.returns-in-Err-plan_files-clause-kept
+returns-in-Err-plan_files-clause-kept g c = keeps_on g.V.Ground c.args.volume.now c.read_contents.new.volume c.plan_files.new.volume c.in-Ok.ensures.kept c.in-Err-plan_files.ensures.kept
+
+pub returns-in-Err-plan_files-clause-cause : goal.returns-in-Err-plan_files-clause-cause
+returns-in-Err-plan_files-clause-cause g c = cause_after g.V.Ground c.args.volume.now c.read_contents.new.volume c.in-Ok.ensures.kept.leads c.plan_files.new.volume c.in-Err-plan_files.fault c.in-Err-plan_files.ensures.cause
+
+pub returns-clause-kept : goal.returns-clause-kept
+returns-clause-kept g c = keeps_on g.V.Ground c.args.volume.now c.read_contents.new.volume c.plan_files.new.volume c.in-Ok.ensures.kept c.in-Ok-plan_files.ensures.kept
+
+pub geometry-requires : goal.geometry-requires
+geometry-requires g c = record { ready = g.V.Ground.leads_ready c.args.volume.now c.plan_files.new.volume (g.V.Ground.leads_trans c.args.volume.now c.read_contents.new.volume c.plan_files.new.volume c.in-Ok.ensures.kept.leads c.in-Ok-plan_files.ensures.kept.leads) c.requires }
+
+pub returns-in-Err-clause-sound : goal.returns-in-Err-clause-sound
+returns-in-Err-clause-sound g c = λ damage told records v vol. c.in-Err.ensures.sound damage told v.catalog (catalog_is g.V.Ground c.args.volume.now records v vol)

@@ -9,6 +9,10 @@ use Rattle.slotted_pages.specs.Reads.{page_on}
 use Rattle.volume_model.specs.Homes.{home}
 use Rattle.history_writes.specs.Laid.{IsDense, page_of, rows_after, slots_after, written_after}
 use Rattle.history_writes.proofs.Laying.{body_laid, body_put, empty_dense, first_slot, laid_more, laid_same, page_is, put_slots, rows_left, slots_are}
+use Rattle.ex_base.proofs.Handed.{no_value, not_given}
+use Rattle.history_writes.proofs.Failing.{on_err}
+use Rattle.disk_model.specs.Changes.{changes_refl}
+use Rattle.history_writes.specs.Places.{InPagesFrom}
 use Rattle.history_writes.proofs.file_pages.FilePages.add.Goals as goal
 
 pub returns-in-Some-clause-lays : goal.returns-in-Some-clause-lays
@@ -120,3 +124,75 @@ returns-clause-slots g c =
     let place : place_for (length c.args.self.now.page.items) (slots_of c.args.self.now.page.items) (length c.args.body.now) ≡ None =
     ap (λ (b : List ℕ). place_for (length b) (slots_of b) (length c.args.body.now)) (sym c.deref_mut.ensures.value) ∙ sym c.insert_body.ensures.place ∙ c.in_default.is in
     ap (λ (b : List ℕ). slots_of b) items ∙ put ∙ ap (λ (slots : List Slot). slots ++ Some c.args.body.now ∷ []) none ∙ sym (ap (slots_after (slots_of c.args.self.now.page.items) c.args.body.now) place)
+
+-- ---- what else is promised
+
+pub returns-in-Some-clause-file : goal.returns-in-Some-clause-file
+returns-in-Some-clause-file g c =
+    let was : length c.insert_body.new.image ≡ c.args.self.now.page.len = omega (arith, c.insert_body.auto.image, c.deref_mut.ensures.len) in
+    record { file_no = refl; first = refl; size = omega (arith, ap (λ (b : List ℕ). length b) (with_items_is c.args.self.now.page c.insert_body.new.image was), c.insert_body.auto.image, ap (λ (b : List ℕ). length b) c.deref_mut.ensures.value) }
+
+pub returns-in-Some-clause-failed : goal.returns-in-Some-clause-failed
+returns-in-Some-clause-failed g c = tt
+
+pub returns-in-Some-clause-changes : goal.returns-in-Some-clause-changes
+returns-in-Some-clause-changes g c = changes_refl (InPagesFrom c.args.geometry.now c.args.self.now.first) (g.D.World.outside c.args.disk.now)
+
+pub returns-in-Some-clause-cause : goal.returns-in-Some-clause-cause
+returns-in-Some-clause-cause g c = tt
+
+pub returns-in_err-leave_page-clause-lays : goal.returns-in_err-leave_page-clause-lays
+returns-in_err-leave_page-clause-lays g c = not_given c.from_residual.result _ c.in_err-leave_page.field-0.0 c.from_residual.ensures.1
+
+pub returns-in_err-leave_page-clause-place : goal.returns-in_err-leave_page-clause-place
+returns-in_err-leave_page-clause-place g c = no_value c.from_residual.result _ c.in_err-leave_page.field-0.0 c.from_residual.ensures.1
+
+pub returns-in_err-leave_page-clause-written : goal.returns-in_err-leave_page-clause-written
+returns-in_err-leave_page-clause-written g c = not_given c.from_residual.result _ c.in_err-leave_page.field-0.0 c.from_residual.ensures.1
+
+pub returns-in_err-leave_page-clause-slots : goal.returns-in_err-leave_page-clause-slots
+returns-in_err-leave_page-clause-slots g c = not_given c.from_residual.result _ c.in_err-leave_page.field-0.0 c.from_residual.ensures.1
+
+pub returns-in_err-leave_page-clause-page : goal.returns-in_err-leave_page-clause-page
+returns-in_err-leave_page-clause-page g c =
+    let was : length c.insert_body.new.image ≡ c.args.self.now.page.len = omega (arith, c.insert_body.auto.image, c.deref_mut.ensures.len) in
+    let same : (with_items c.args.self.now.page c.insert_body.new.image).items ≡ c.args.self.now.page.items = with_items_is c.args.self.now.page c.insert_body.new.image was ∙ c.in_default.ensures.kept ∙ c.deref_mut.ensures.value in
+    subst IsDense (sym (c.in_err-leave_page.ensures.failed.page ∙ same)) c.requires.page
+
+pub returns-in_err-leave_page-clause-file : goal.returns-in_err-leave_page-clause-file
+returns-in_err-leave_page-clause-file g c =
+    let was : length c.insert_body.new.image ≡ c.args.self.now.page.len = omega (arith, c.insert_body.auto.image, c.deref_mut.ensures.len) in
+    let same : (with_items c.args.self.now.page c.insert_body.new.image).items ≡ c.args.self.now.page.items = with_items_is c.args.self.now.page c.insert_body.new.image was ∙ c.in_default.ensures.kept ∙ c.deref_mut.ensures.value in
+    record { file_no = c.leave_page.ensures.file.file_no; first = c.leave_page.ensures.file.first; size = c.leave_page.ensures.file.size ∙ ap (λ (b : List ℕ). length b) same }
+
+pub returns-in_err-leave_page-clause-failed : goal.returns-in_err-leave_page-clause-failed
+returns-in_err-leave_page-clause-failed g c =
+    let was : length c.insert_body.new.image ≡ c.args.self.now.page.len = omega (arith, c.insert_body.auto.image, c.deref_mut.ensures.len) in
+    let same : (with_items c.args.self.now.page c.insert_body.new.image).items ≡ c.args.self.now.page.items = with_items_is c.args.self.now.page c.insert_body.new.image was ∙ c.in_default.ensures.kept ∙ c.deref_mut.ensures.value in
+    on_err c.from_residual.result _ (record { written = c.in_err-leave_page.ensures.failed.written; page = c.in_err-leave_page.ensures.failed.page ∙ same })
+
+pub returns-in_err-leave_page-clause-changes : goal.returns-in_err-leave_page-clause-changes
+returns-in_err-leave_page-clause-changes g c = c.leave_page.ensures.changes
+
+pub returns-in_err-leave_page-clause-cause : goal.returns-in_err-leave_page-clause-cause
+returns-in_err-leave_page-clause-cause g c = on_err c.from_residual.result _ c.in_err-leave_page.ensures.cause
+
+pub returns-clause-file : goal.returns-clause-file
+returns-clause-file g c =
+    let was : length c.insert_body.new.image ≡ c.args.self.now.page.len = omega (arith, c.insert_body.auto.image, c.deref_mut.ensures.len) in
+    let same : (with_items c.args.self.now.page c.insert_body.new.image).items ≡ c.args.self.now.page.items = with_items_is c.args.self.now.page c.insert_body.new.image was ∙ c.in_default.ensures.kept ∙ c.deref_mut.ensures.value in
+    let long : length c.insert_body-2.new.image ≡ c.leave_page.new.self.page.len = omega (arith, c.insert_body-2.auto.image, c.deref_mut-2.ensures.len) in
+    record {
+      file_no = c.leave_page.ensures.file.file_no;
+      first = c.leave_page.ensures.file.first;
+      size = omega (arith, ap (λ (b : List ℕ). length b) (with_items_is c.leave_page.new.self.page c.insert_body-2.new.image long), c.insert_body-2.auto.image, ap (λ (b : List ℕ). length b) c.deref_mut-2.ensures.value, c.leave_page.ensures.file.size, ap (λ (b : List ℕ). length b) same);
+    }
+
+pub returns-clause-failed : goal.returns-clause-failed
+returns-clause-failed g c = tt
+
+pub returns-clause-changes : goal.returns-clause-changes
+returns-clause-changes g c = c.leave_page.ensures.changes
+
+pub returns-clause-cause : goal.returns-clause-cause
+returns-clause-cause g c = tt
