@@ -16,7 +16,7 @@ mod top_call;
 
 pub use command_words::{NamedFile, Wish, file_of, wish_of};
 pub use format::format as make_volume;
-pub use program::run_program;
+pub use program::{RunEnding, run_program, run_words};
 pub use session::VolumeSession;
 pub use status::Status;
 pub use top_call::run;

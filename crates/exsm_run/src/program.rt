@@ -12,16 +12,16 @@ use file_host::FileHost;
 use std::process::ExitCode;
 use std::{env, io};
 
-// How a command line ended, and the system's reason where a call failed.
+/// How a command line ended, and the system's reason where a call failed.
 #[derive(Clone, Copy)]
-struct Ending {
-    status: Status,
-    cause: Option<io::Error>,
+pub struct RunEnding {
+    pub status: Status,
+    pub cause: Option<io::Error>,
 }
 
-impl Ending {
+impl RunEnding {
     // No memory was there.
-    const OF_NO_MEMORY: Ending = Ending {
+    const OF_NO_MEMORY: RunEnding = RunEnding {
         status: Status::Memory,
         cause: None,
     };
@@ -36,8 +36,8 @@ fn words_of(rt: &HostRuntime) -> io::Result<Vec<String>> {
     Ok(words)
 }
 
-// Runs the command line on the file that it names. Words outside of the grammar are refused, but for want of memory.
-fn run_words(rt: &HostRuntime, words: &[String], file: Option<NamedFile<'_>>) -> Ending
+/// Runs the command line on the file that it names. Words outside of the grammar are refused, but for want of memory.
+pub fn run_words(rt: &HostRuntime, words: &[String], file: Option<NamedFile<'_>>) -> RunEnding
     ensures usage { result.status ≡ Status.Usage → IsOutside (texts words.now) }
     ensures outside { IsOutside (texts words.now)
         → (result.status ≡ Status.Usage) ⊎ (result.status ≡ Status.Memory) }
@@ -48,9 +48,9 @@ fn run_words(rt: &HostRuntime, words: &[String], file: Option<NamedFile<'_>>) ->
         Ok(mut host) => {
             let status = run(rt.alloc(), words, &mut host);
             let cause = cause_of(status, &host);
-            Ending { status, cause }
+            RunEnding { status, cause }
         }
-        Err(_) => Ending::OF_NO_MEMORY,
+        Err(_) => RunEnding::OF_NO_MEMORY,
     }
 }
 
@@ -74,10 +74,10 @@ fn cause_of<V: Drop, I: Drop, O: Drop>(
 }
 
 // Where not all was done, says so on the standard error: why, and the status in the last line. What that gives is the program's exit status.
-fn tell(rt: &HostRuntime, words: &[String], volume: Option<&str>, ending: Ending) -> ExitCode
+fn tell(rt: &HostRuntime, words: &[String], volume: Option<&str>, ending: RunEnding) -> ExitCode
     ensures { exit_status result ≡ code_of ending.status }
 {
-    let Ending { status, cause } = ending;
+    let RunEnding { status, cause } = ending;
     if let Some(line) = StatusLine::of(status) {
         let _ = rt.eprintln(Explanation {
             words,
@@ -99,10 +99,10 @@ pub fn run_program(rt: HostRuntime) -> ExitCode {
                 let ending = run_words(&rt, &words, file);
                 tell(&rt, &words, file.map(|file| file.path), ending)
             }
-            Err(_) => tell(&rt, &words, None, Ending::OF_NO_MEMORY),
+            Err(_) => tell(&rt, &words, None, RunEnding::OF_NO_MEMORY),
         },
         Err(cause) => {
-            let ending = Ending {
+            let ending = RunEnding {
                 status: Status::of_unread_words(cause.kind()),
                 cause: Some(cause),
             };
