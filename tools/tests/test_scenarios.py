@@ -105,7 +105,7 @@ class Run:
 class Rows:
     """The lines of a section beside what they write, with the plain lists of each disk."""
 
-    WRITES = re.compile(r"(on|show|same|file:) ")
+    WRITES = re.compile(r"(on|show|same|file:|real:) ")
 
     def __init__(self, title: str) -> None:
         said, told = sections("stdin")[title], iter(sections("stdout")[title])

@@ -121,6 +121,8 @@ pub enum Statement<'a> {
     },
     /// The file that the words of a command line name is told.
     File(&'a str),
+    /// A command line is run on the file that it names.
+    Real(&'a str),
     /// A command line is added to those that look at an image.
     Look {
         name: &'a str,
@@ -408,6 +410,7 @@ fn told_of<'a>(
 ) -> Result<Option<Statement<'a>>, Wrong<'a>> {
     Ok(Some(match verb {
         "file" => Statement::File(rest),
+        "real" => Statement::Real(rest),
         "text" => {
             let name = head.word();
             let times = head.number_or(1)? as u64;

@@ -15,7 +15,7 @@ fn main(rt: HostRuntime) -> io::Result<()> {
     let mut number: u64 = 0;
     for line in rt.lines(rt.alloc()) {
         number = number.saturating_add(1);
-        let told = scenes.told(number, line?.as_str())?;
+        let told = scenes.told(&rt, number, line?.as_str())?;
         io::writer(&rt).write_all(told.as_slice())?;
     }
     Ok(())

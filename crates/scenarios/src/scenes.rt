@@ -2,8 +2,8 @@
 use crate::faults::Trial;
 use crate::hosts::{Plan, Watched, run_on};
 use crate::images::{Way, ways_of};
-use crate::outcomes::{push_status, tally_of};
-use exsm_run::{Status, file_of};
+use crate::outcomes::{push_status, status_text, tally_of};
+use exsm_run::{Status, file_of, run_words};
 use memory_host::MemoryHost;
 use scenario_values::{Asked, Telling, Trouble, Values, asked_of, push_sent, words_of};
 use scenario_words::{Command, Mode, Options, Place, Statement, statement_of};
@@ -173,6 +173,15 @@ impl Scenes {
         out.extend_from_slice(text.as_bytes())
     }
 
+    // Runs a command line on the file that it names, as the program does, and tells how it ended.
+    fn real(&self, rt: &HostRuntime, out: &mut Vec<u8>, words: &str) -> Result<(), AllocError> {
+        let words = words_of(self.alloc, words)?;
+        let file = file_of(self.alloc, &words)?;
+        let status = run_words(rt, &words, file).status;
+        out.extend_from_slice(status_text(self.alloc, status)?.as_bytes())?;
+        Ok(out.push(b'\n')?)
+    }
+
     fn show<'a>(
         &self,
         out: &mut Vec<u8>,
@@ -224,7 +233,12 @@ impl Scenes {
     }
 
     // Does what a statement says, and adds what is told of it.
-    fn tell<'a>(&mut self, out: &mut Vec<u8>, statement: Statement<'a>) -> Result<(), Trouble<'a>> {
+    fn tell<'a>(
+        &mut self,
+        rt: &HostRuntime,
+        out: &mut Vec<u8>,
+        statement: Statement<'a>,
+    ) -> Result<(), Trouble<'a>> {
         match statement {
             Statement::Heading(text) => {
                 let line = format!(in self.alloc; "= {text}\n")?;
@@ -233,6 +247,7 @@ impl Scenes {
             Statement::Show { name, place, count } => self.show(out, name, place, count),
             Statement::Same { name, other } => self.same(out, name, other),
             Statement::File(words) => Ok(self.file(out, words)?),
+            Statement::Real(words) => Ok(self.real(rt, out, words)?),
             Statement::On {
                 name,
                 options,
@@ -249,15 +264,25 @@ impl Scenes {
     }
 
     // Does what a line says, and adds what is told of it.
-    fn line<'a>(&mut self, out: &mut Vec<u8>, line: &'a str) -> Result<(), Trouble<'a>> {
+    fn line<'a>(
+        &mut self,
+        rt: &HostRuntime,
+        out: &mut Vec<u8>,
+        line: &'a str,
+    ) -> Result<(), Trouble<'a>> {
         let statement = statement_of(line)?;
-        self.tell(out, statement)
+        self.tell(rt, out, statement)
     }
 
     /// What is told of the line of that number.
-    pub(crate) fn told(&mut self, number: u64, line: &str) -> Result<Vec<u8>, AllocError> {
+    pub(crate) fn told(
+        &mut self,
+        rt: &HostRuntime,
+        number: u64,
+        line: &str,
+    ) -> Result<Vec<u8>, AllocError> {
         let mut out = Vec::new(self.alloc);
-        match self.line(&mut out, line) {
+        match self.line(rt, &mut out, line) {
             Ok(()) => Ok(out),
             Err(Trouble::Memory) => Err(AllocError),
             Err(Trouble::Wrong(wrong)) => {
