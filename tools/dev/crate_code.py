@@ -37,6 +37,15 @@ def named_crates() -> dict[str, list[str]]:
     return {name.split()[0]: names.split() for name, names in lines}
 
 
+def with_below(crate: str) -> list[str]:
+    """A crate and all that are below it, in the order of crates.txt."""
+    named, found = named_crates(), {crate}
+    for name in reversed(named):
+        if name in found:
+            found |= set(named[name]) & set(named)
+    return [name for name in named if name in found]
+
+
 def files_below(folder: str, ending: str) -> Iterator[str]:
     """The files below a folder whose names end so, but for what a build left."""
     for at, folders, names in os.walk(TOP / folder):
