@@ -1,3 +1,4 @@
+pub mod Handed
 pub mod Unmoved
 pub mod Levels
 pub mod Pairs

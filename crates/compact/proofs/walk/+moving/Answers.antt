@@ -3,14 +3,17 @@ use Rattle.std.proofs.lemmas.Result.{IfErr-weaker, IfOk-weaker}
 use Rattle.ex_base.specs.declared.geometry.Geometry.{Geometry}
 use Rattle.ex_base.specs.Sizes.{leaf_bytes, object_most}
 use Rattle.ex_base.proofs.Geometries.{page_le}
-use Rattle.ex_base.proofs.Results.{if_err_handed}
+use Rattle.ex_base.specs.declared.faults.PortFault.TheVariants.{Memory}
+use Rattle.ex_base.proofs.Results.{cause_handed, if_err_handed}
 use Rattle.trees.specs.Made.{sizes_of}
 use Rattle.trees.specs.Rows.{row_size}
 use Rattle.trees.specs.declared.rows.Part.{Part}
+use Rattle.trees.proofs.Laid.{extends_kept, extends_on, extends_refl}
 use Rattle.trees.proofs.Reading.{no_part}
 use Rattle.trees.proofs.Sizes.{front_most, size-front}
 use Rattle.compact.specs.Moves.{copies_of}
 use Rattle.compact.specs.Walk.{CanMove, RowMoved, TreeMoved}
+use Rattle.compact.proofs.Handed.{cause_here, no_value}
 use Rattle.compact.proofs.LeafSteps.{known_copy}
 use Rattle.compact.proofs.Loop.{RowSoFar, more_so_far, no_row}
 use Rattle.compact.proofs.Rows.{can_at}
@@ -165,3 +168,215 @@ pub move_row-returns-clause-moved : goal.move_row-returns-clause-moved
 move_row-returns-clause-moved g t c = λ told l same move can.
     subst (λ (r : List Part). RowMoved g.B.Ground move c.args.dense c.args.blocks.now c.loop-part.blocks (copies_of c.args.moves.now) (copies_of c.loop-part.moves) l r c.loop-part.made.items c.loop-part.changed) (take_all c.loop-part.part-index c.args.row.now (omega arith))
     (c.loop-part.invariant.moved told l same move can)
+
+-- ---- what else is asked and promised
+
+pub move_part-move_leaf-requires-clause-ready : goal.move_part-move_leaf-requires-clause-ready
+move_part-move_leaf-requires-clause-ready g t c = c.requires.ready
+
+pub move_part-move_leaf-requires-clause-buffer : goal.move_part-move_leaf-requires-clause-buffer
+move_part-move_leaf-requires-clause-buffer g t c = c.requires.buffer
+
+pub move_part-row_of-requires : goal.move_part-row_of-requires
+move_part-row_of-requires g t c = c.requires.ready
+
+pub move_part-overflow_sub-level : goal.move_part-overflow_sub-level
+move_part-overflow_sub-level g t c = omega (arith, c.if-level-eq0.false)
+
+pub move_row-geometry-fan-requires : goal.move_row-geometry-fan-requires
+move_row-geometry-fan-requires g t c = record { ready = c.requires.ready }
+
+pub move_row-offset_bounds-row-part-index : goal.move_row-offset_bounds-row-part-index
+move_row-offset_bounds-row-part-index g t c = omega arith
+
+pub move_row-loop-part-smaller : goal.move_row-loop-part-smaller
+move_row-loop-part-smaller g t c = omega (arith, c.loop-part-test.true)
+
+pub move_part-returns-then-level-eq0-clause-extends : goal.move_part-returns-then-level-eq0-clause-extends
+move_part-returns-then-level-eq0-clause-extends g t c = c.move_leaf.ensures.extends
+
+pub move_part-returns-then-level-eq0-clause-keeps : goal.move_part-returns-then-level-eq0-clause-keeps
+move_part-returns-then-level-eq0-clause-keeps g t c = c.move_leaf.ensures.keeps
+
+pub move_part-returns-then-level-eq0-clause-buffer : goal.move_part-returns-then-level-eq0-clause-buffer
+move_part-returns-then-level-eq0-clause-buffer g t c = c.move_leaf.ensures.buffer
+
+pub move_part-returns-then-level-eq0-clause-leads : goal.move_part-returns-then-level-eq0-clause-leads
+move_part-returns-then-level-eq0-clause-leads g t c = c.move_leaf.ensures.leads
+
+pub move_part-returns-then-level-eq0-clause-cause : goal.move_part-returns-then-level-eq0-clause-cause
+move_part-returns-then-level-eq0-clause-cause g t c = c.move_leaf.ensures.cause
+
+pub move_part-returns-in-Some-clause-extends : goal.move_part-returns-in-Some-clause-extends
+move_part-returns-in-Some-clause-extends g t c = extends_refl g.B.Ground c.args.blocks.now
+
+pub move_part-returns-in-Some-clause-sound : goal.move_part-returns-in-Some-clause-sound
+move_part-returns-in-Some-clause-sound g t c = tt
+
+pub move_part-returns-in-Some-clause-keeps : goal.move_part-returns-in-Some-clause-keeps
+move_part-returns-in-Some-clause-keeps g t c = λ p copy is. is
+
+pub move_part-returns-in-Some-clause-buffer : goal.move_part-returns-in-Some-clause-buffer
+move_part-returns-in-Some-clause-buffer g t c = refl
+
+pub move_part-returns-in-Some-clause-leads : goal.move_part-returns-in-Some-clause-leads
+move_part-returns-in-Some-clause-leads g t c = g.B.Ground.leads_refl c.args.blocks.now
+
+pub move_part-returns-in-Some-clause-cause : goal.move_part-returns-in-Some-clause-cause
+move_part-returns-in-Some-clause-cause g t c = tt
+
+pub move_part-returns-in_err-below-clause-extends : goal.move_part-returns-in_err-below-clause-extends
+move_part-returns-in_err-below-clause-extends g t c = no_value c.from_residual.result _ c.in_err-below.field-0.0 c.from_residual.ensures.1
+
+pub move_part-returns-in_err-below-clause-moved : goal.move_part-returns-in_err-below-clause-moved
+move_part-returns-in_err-below-clause-moved g t c = no_value c.from_residual.result _ c.in_err-below.field-0.0 c.from_residual.ensures.1
+
+pub move_part-returns-in_err-below-clause-keeps : goal.move_part-returns-in_err-below-clause-keeps
+move_part-returns-in_err-below-clause-keeps g t c = λ p copy is. is
+
+pub move_part-returns-in_err-below-clause-buffer : goal.move_part-returns-in_err-below-clause-buffer
+move_part-returns-in_err-below-clause-buffer g t c = refl
+
+pub move_part-returns-in_err-below-clause-leads : goal.move_part-returns-in_err-below-clause-leads
+move_part-returns-in_err-below-clause-leads g t c = let kept = c.row_of.ensures.kept in kept.leads
+
+pub move_part-returns-in_err-below-clause-cause : goal.move_part-returns-in_err-below-clause-cause
+move_part-returns-in_err-below-clause-cause g t c = cause_here (g.B.Ground.faults c.args.blocks.now) (g.B.Ground.faults c.row_of.new.blocks) c.from_residual.result c.in_err-below.field-0.0 c.from_residual.ensures.1 c.in_err-below.ensures.cause
+
+pub move_part-returns-in_err-made-clause-extends : goal.move_part-returns-in_err-made-clause-extends
+move_part-returns-in_err-made-clause-extends g t c = no_value c.from_residual-in_err-made.result _ c.in_err-made.field-0.0 c.from_residual-in_err-made.ensures.1
+
+pub move_part-returns-in_err-made-clause-moved : goal.move_part-returns-in_err-made-clause-moved
+move_part-returns-in_err-made-clause-moved g t c = no_value c.from_residual-in_err-made.result _ c.in_err-made.field-0.0 c.from_residual-in_err-made.ensures.1
+
+pub move_part-returns-in_err-made-clause-keeps : goal.move_part-returns-in_err-made-clause-keeps
+move_part-returns-in_err-made-clause-keeps g t c = c.move_row.ensures.keeps
+
+pub move_part-returns-in_err-made-clause-buffer : goal.move_part-returns-in_err-made-clause-buffer
+move_part-returns-in_err-made-clause-buffer g t c = c.move_row.ensures.buffer
+
+pub move_part-returns-in_err-made-clause-leads : goal.move_part-returns-in_err-made-clause-leads
+move_part-returns-in_err-made-clause-leads g t c = let kept = c.in_ok-below.ensures.kept in g.B.Ground.leads_trans c.args.blocks.now c.row_of.new.blocks c.move_row.new.blocks kept.leads c.move_row.ensures.leads
+
+pub move_part-returns-in_err-made-clause-cause : goal.move_part-returns-in_err-made-clause-cause
+move_part-returns-in_err-made-clause-cause g t c = let kept = c.in_ok-below.ensures.kept in cause_handed (g.B.Ground.faults c.args.blocks.now) (g.B.Ground.faults c.row_of.new.blocks) (g.B.Ground.faults c.move_row.new.blocks) c.from_residual-in_err-made.result c.in_err-made.field-0.0 c.from_residual-in_err-made.ensures.1 (g.B.Ground.leads_faults c.args.blocks.now c.row_of.new.blocks kept.leads) c.in_err-made.ensures.cause
+
+pub move_part-returns-in_err-copy-clause-extends : goal.move_part-returns-in_err-copy-clause-extends
+move_part-returns-in_err-copy-clause-extends g t c = no_value c.from_residual-in_err-copy.result _ c.in_err-copy.field-0.0 c.from_residual-in_err-copy.ensures.1
+
+pub move_part-returns-in_err-copy-clause-moved : goal.move_part-returns-in_err-copy-clause-moved
+move_part-returns-in_err-copy-clause-moved g t c = no_value c.from_residual-in_err-copy.result _ c.in_err-copy.field-0.0 c.from_residual-in_err-copy.ensures.1
+
+pub move_part-returns-in_err-copy-clause-keeps : goal.move_part-returns-in_err-copy-clause-keeps
+move_part-returns-in_err-copy-clause-keeps g t c = c.move_row.ensures.keeps
+
+pub move_part-returns-in_err-copy-clause-buffer : goal.move_part-returns-in_err-copy-clause-buffer
+move_part-returns-in_err-copy-clause-buffer g t c = c.node_over.ensures.buffer ∙ c.move_row.ensures.buffer
+
+pub move_part-returns-in_err-copy-clause-leads : goal.move_part-returns-in_err-copy-clause-leads
+move_part-returns-in_err-copy-clause-leads g t c = let kept = c.in_ok-below.ensures.kept in g.B.Ground.leads_trans c.args.blocks.now c.move_row.new.blocks c.node_over.new.blocks (g.B.Ground.leads_trans c.args.blocks.now c.row_of.new.blocks c.move_row.new.blocks kept.leads c.move_row.ensures.leads) c.node_over.ensures.leads
+
+pub move_part-returns-in_err-copy-clause-cause : goal.move_part-returns-in_err-copy-clause-cause
+move_part-returns-in_err-copy-clause-cause g t c = let kept = c.in_ok-below.ensures.kept in cause_handed (g.B.Ground.faults c.args.blocks.now) (g.B.Ground.faults c.move_row.new.blocks) (g.B.Ground.faults c.node_over.new.blocks) c.from_residual-in_err-copy.result c.in_err-copy.field-0.0 c.from_residual-in_err-copy.ensures.1 (g.B.Ground.leads_faults c.args.blocks.now c.move_row.new.blocks (g.B.Ground.leads_trans c.args.blocks.now c.row_of.new.blocks c.move_row.new.blocks kept.leads c.move_row.ensures.leads)) c.in_err-copy.ensures.cause
+
+pub move_part-returns-in_err-add-clause-extends : goal.move_part-returns-in_err-add-clause-extends
+move_part-returns-in_err-add-clause-extends g t c = no_value c.from_residual-in_err-add.result _ Memory c.from_residual-in_err-add.ensures.1
+
+pub move_part-returns-in_err-add-clause-moved : goal.move_part-returns-in_err-add-clause-moved
+move_part-returns-in_err-add-clause-moved g t c = no_value c.from_residual-in_err-add.result _ Memory c.from_residual-in_err-add.ensures.1
+
+pub move_part-returns-in_err-add-clause-sound : goal.move_part-returns-in_err-add-clause-sound
+move_part-returns-in_err-add-clause-sound g t c = if_err_handed c.from_residual-in_err-add.result _ Memory c.from_residual-in_err-add.ensures.1 (λ told l same move can damage. damage)
+
+pub move_part-returns-in_err-add-clause-keeps : goal.move_part-returns-in_err-add-clause-keeps
+move_part-returns-in_err-add-clause-keeps g t c = λ p copy is. c.add.ensures.keeps p copy (c.move_row.ensures.keeps p copy is)
+
+pub move_part-returns-in_err-add-clause-buffer : goal.move_part-returns-in_err-add-clause-buffer
+move_part-returns-in_err-add-clause-buffer g t c = c.node_over.ensures.buffer ∙ c.move_row.ensures.buffer
+
+pub move_part-returns-in_err-add-clause-leads : goal.move_part-returns-in_err-add-clause-leads
+move_part-returns-in_err-add-clause-leads g t c = let kept = c.in_ok-below.ensures.kept in g.B.Ground.leads_trans c.args.blocks.now c.move_row.new.blocks c.node_over.new.blocks (g.B.Ground.leads_trans c.args.blocks.now c.row_of.new.blocks c.move_row.new.blocks kept.leads c.move_row.ensures.leads) c.node_over.ensures.leads
+
+pub move_part-returns-in_err-add-clause-cause : goal.move_part-returns-in_err-add-clause-cause
+move_part-returns-in_err-add-clause-cause g t c = cause_here (g.B.Ground.faults c.args.blocks.now) (g.B.Ground.faults c.node_over.new.blocks) c.from_residual-in_err-add.result Memory c.from_residual-in_err-add.ensures.1 tt
+
+pub move_part-returns-clause-extends : goal.move_part-returns-clause-extends
+move_part-returns-clause-extends g t c = let kept = c.in_ok-below.ensures.kept in extends_on g.B.Ground c.args.blocks.now c.move_row.new.blocks c.node_over.new.blocks (extends_on g.B.Ground c.args.blocks.now c.row_of.new.blocks c.move_row.new.blocks (extends_kept g.B.Ground c.args.blocks.now c.row_of.new.blocks kept) c.in_ok-made.ensures.extends) c.in_ok-copy.ensures.extends
+
+pub move_part-returns-clause-sound : goal.move_part-returns-clause-sound
+move_part-returns-clause-sound g t c = tt
+
+pub move_part-returns-clause-keeps : goal.move_part-returns-clause-keeps
+move_part-returns-clause-keeps g t c = λ p copy is. c.add.ensures.keeps p copy (c.move_row.ensures.keeps p copy is)
+
+pub move_part-returns-clause-buffer : goal.move_part-returns-clause-buffer
+move_part-returns-clause-buffer g t c = c.node_over.ensures.buffer ∙ c.move_row.ensures.buffer
+
+pub move_part-returns-clause-leads : goal.move_part-returns-clause-leads
+move_part-returns-clause-leads g t c = let kept = c.in_ok-below.ensures.kept in g.B.Ground.leads_trans c.args.blocks.now c.move_row.new.blocks c.node_over.new.blocks (g.B.Ground.leads_trans c.args.blocks.now c.row_of.new.blocks c.move_row.new.blocks kept.leads c.move_row.ensures.leads) c.node_over.ensures.leads
+
+pub move_part-returns-clause-cause : goal.move_part-returns-clause-cause
+move_part-returns-clause-cause g t c = tt
+
+pub move_row-returns-in_err-page-clause-extends : goal.move_row-returns-in_err-page-clause-extends
+move_row-returns-in_err-page-clause-extends g t c = no_value c.from_residual.result _ c.in_err-page.field-0.0 c.from_residual.ensures.1
+
+pub move_row-returns-in_err-page-clause-sizes : goal.move_row-returns-in_err-page-clause-sizes
+move_row-returns-in_err-page-clause-sizes g t c = no_value c.from_residual.result _ c.in_err-page.field-0.0 c.from_residual.ensures.1
+
+pub move_row-returns-in_err-page-clause-moved : goal.move_row-returns-in_err-page-clause-moved
+move_row-returns-in_err-page-clause-moved g t c = no_value c.from_residual.result _ c.in_err-page.field-0.0 c.from_residual.ensures.1
+
+pub move_row-returns-in_err-page-clause-keeps : goal.move_row-returns-in_err-page-clause-keeps
+move_row-returns-in_err-page-clause-keeps g t c = let so_far = c.loop-part.invariant in λ p copy is. c.move_part.ensures.keeps p copy (so_far.keeps p copy is)
+
+pub move_row-returns-in_err-page-clause-buffer : goal.move_row-returns-in_err-page-clause-buffer
+move_row-returns-in_err-page-clause-buffer g t c = let so_far = c.loop-part.invariant in c.move_part.ensures.buffer ∙ so_far.buffer
+
+pub move_row-returns-in_err-page-clause-leads : goal.move_row-returns-in_err-page-clause-leads
+move_row-returns-in_err-page-clause-leads g t c = let so_far = c.loop-part.invariant in g.B.Ground.leads_trans c.args.blocks.now c.loop-part.blocks c.move_part.new.blocks so_far.extends.leads c.move_part.ensures.leads
+
+pub move_row-returns-in_err-page-clause-cause : goal.move_row-returns-in_err-page-clause-cause
+move_row-returns-in_err-page-clause-cause g t c = let so_far = c.loop-part.invariant in cause_handed (g.B.Ground.faults c.args.blocks.now) (g.B.Ground.faults c.loop-part.blocks) (g.B.Ground.faults c.move_part.new.blocks) c.from_residual.result c.in_err-page.field-0.0 c.from_residual.ensures.1 (g.B.Ground.leads_faults c.args.blocks.now c.loop-part.blocks so_far.extends.leads) c.in_err-page.ensures.cause
+
+pub move_row-returns-in_err-put-clause-extends : goal.move_row-returns-in_err-put-clause-extends
+move_row-returns-in_err-put-clause-extends g t c = no_value c.from_residual-in_err-put.result _ Memory c.from_residual-in_err-put.ensures.1
+
+pub move_row-returns-in_err-put-clause-sizes : goal.move_row-returns-in_err-put-clause-sizes
+move_row-returns-in_err-put-clause-sizes g t c = no_value c.from_residual-in_err-put.result _ Memory c.from_residual-in_err-put.ensures.1
+
+pub move_row-returns-in_err-put-clause-moved : goal.move_row-returns-in_err-put-clause-moved
+move_row-returns-in_err-put-clause-moved g t c = no_value c.from_residual-in_err-put.result _ Memory c.from_residual-in_err-put.ensures.1
+
+pub move_row-returns-in_err-put-clause-sound : goal.move_row-returns-in_err-put-clause-sound
+move_row-returns-in_err-put-clause-sound g t c = if_err_handed c.from_residual-in_err-put.result _ Memory c.from_residual-in_err-put.ensures.1 (λ told l same move can damage. damage)
+
+pub move_row-returns-in_err-put-clause-keeps : goal.move_row-returns-in_err-put-clause-keeps
+move_row-returns-in_err-put-clause-keeps g t c = let so_far = c.loop-part.invariant in λ p copy is. c.move_part.ensures.keeps p copy (so_far.keeps p copy is)
+
+pub move_row-returns-in_err-put-clause-buffer : goal.move_row-returns-in_err-put-clause-buffer
+move_row-returns-in_err-put-clause-buffer g t c = let so_far = c.loop-part.invariant in c.move_part.ensures.buffer ∙ so_far.buffer
+
+pub move_row-returns-in_err-put-clause-leads : goal.move_row-returns-in_err-put-clause-leads
+move_row-returns-in_err-put-clause-leads g t c = let so_far = c.loop-part.invariant in g.B.Ground.leads_trans c.args.blocks.now c.loop-part.blocks c.move_part.new.blocks so_far.extends.leads c.move_part.ensures.leads
+
+pub move_row-returns-in_err-put-clause-cause : goal.move_row-returns-in_err-put-clause-cause
+move_row-returns-in_err-put-clause-cause g t c = cause_here (g.B.Ground.faults c.args.blocks.now) (g.B.Ground.faults c.move_part.new.blocks) c.from_residual-in_err-put.result Memory c.from_residual-in_err-put.ensures.1 tt
+
+pub move_row-returns-clause-extends : goal.move_row-returns-clause-extends
+move_row-returns-clause-extends g t c = c.loop-part.invariant.extends
+
+pub move_row-returns-clause-sound : goal.move_row-returns-clause-sound
+move_row-returns-clause-sound g t c = tt
+
+pub move_row-returns-clause-keeps : goal.move_row-returns-clause-keeps
+move_row-returns-clause-keeps g t c = c.loop-part.invariant.keeps
+
+pub move_row-returns-clause-buffer : goal.move_row-returns-clause-buffer
+move_row-returns-clause-buffer g t c = c.loop-part.invariant.buffer
+
+pub move_row-returns-clause-leads : goal.move_row-returns-clause-leads
+move_row-returns-clause-leads g t c = let so_far = c.loop-part.invariant in so_far.extends.leads
+
+pub move_row-returns-clause-cause : goal.move_row-returns-clause-cause
+move_row-returns-clause-cause g t c = tt
