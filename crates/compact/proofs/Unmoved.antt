@@ -17,7 +17,7 @@ use Rattle.compact.proofs.Counting.{times_of_has}
 
 -- ---- copies
 
-no_more : (was now : Option PageNo) → ((c : PageNo) → was ≡ Some c → now ≡ Some c) → one_without now ≤ one_without was
+pub no_more : (was now : Option PageNo) → ((c : PageNo) → was ≡ Some c → now ≡ Some c) → one_without now ≤ one_without was
 no_more None None f = omega arith
 no_more None (Some c) f = omega arith
 no_more (Some c) now f = subst (λ (o : Option PageNo). one_without o ≤ 0) (sym (f c refl)) (omega arith)
@@ -68,7 +68,7 @@ unmoved_some moves (p ∷ ps) page (inr rest) none = omega (arith, unmoved_some 
 -- ---- free low units
 
 -- the units of the segment area lie one after the other
-ahead : (g : Geometry) (i j : ℕ) → i < j → unit_at g Segment i < unit_at g Segment j
+pub ahead : (g : Geometry) (i j : ℕ) → i < j → unit_at g Segment i < unit_at g Segment j
 ahead g i j lt = omega (arith, mul-le (i + 1) g.seg_len j g.seg_len (omega arith) (omega arith), g.some_length)
 
 one_free : (g : Geometry) (used : ℕ → Bool) (n : ℕ) → 1 ≤ free_below g used n → (j : ℕ) × (j < n) × (used (unit_at g Segment j) ≡ false)

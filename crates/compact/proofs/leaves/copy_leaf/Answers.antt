@@ -7,7 +7,6 @@ use Rattle.ex_base.specs.Area.{NamesLeaf}
 use Rattle.ex_base.specs.Bytes.{bytes_at}
 use Rattle.ex_base.specs.Ports.{IsLowest, TakesUnit}
 use Rattle.ex_base.specs.Sizes.{leaf_bytes}
-use Rattle.ex_base.proofs.Geometries.{leaf_some}
 use Rattle.ex_base.proofs.Keeping.{cause_on}
 use Rattle.ex_base.proofs.Results.{from_ok, if_err_handed, if_ok_from}
 use Rattle.compact.specs.Walk.{LeafCopied}
@@ -44,14 +43,6 @@ new_leaf-requires-clause-ready g c = let kept = c.leaf_into.ensures.kept in g.B.
 
 pub new_leaf-requires-clause-free : goal.new_leaf-requires-clause-free
 new_leaf-requires-clause-free g c = let kept = c.leaf_into.ensures.kept in omega (arith, ap (λ (free : Area → ℕ). free Segment) kept.free, c.free.ensures, c.if-free-eq0.false)
-
-pub new_leaf-requires-clause-some : goal.new_leaf-requires-clause-some
-new_leaf-requires-clause-some g c = omega (arith, c.leaf_into.auto.out, c.requires.buffer, leaf_some (g.B.Ground.geometry c.args.blocks.now))
-
-pub new_leaf-requires-clause-fits : goal.new_leaf-requires-clause-fits
-new_leaf-requires-clause-fits g c =
-    let kept = c.leaf_into.ensures.kept in
-    omega (arith, c.leaf_into.auto.out, c.requires.buffer, ap leaf_bytes (g.B.Ground.leads_geometry c.args.blocks.now c.leaf_into.new.self kept.leads))
 
 pub returns-then-not-names_leaf-clause-extends : goal.returns-then-not-names_leaf-clause-extends
 returns-then-not-names_leaf-clause-extends g c = tt

@@ -1,4 +1,5 @@
-use Rattle.std.proofs.Common.{◌≡◌, List, length, get_or, rules, ap, refl, sym, subst, ◌∙◌}
+use Rattle.std.proofs.Common.{◌≡◌, List, length, get_or, rules, arith, ap, refl, sym, subst, ◌∙◌, true≢false}
+use Rattle.trees.specs.Built.{AreSome}
 use Rattle.ex_base.proofs.Results.{if_err_handed}
 use Rattle.trees.specs.Made.{Holds}
 use Rattle.trees.specs.Rows.{row_size}
@@ -93,3 +94,21 @@ returns-clause-leads g c = c.nodes_by.ensures.leads
 
 pub returns-clause-cause : goal.returns-clause-cause
 returns-clause-cause g c = tt
+
+pub nodes_by-requires-clause-sizes : goal.nodes_by-requires-clause-sizes
+nodes_by-requires-clause-sizes g c = subst AreSome (sym c.deref.ensures.value) c.requires.sizes
+
+pub nodes_by-requires-clause-limit : goal.nodes_by-requires-clause-limit
+nodes_by-requires-clause-limit g c = omega (arith, ap row_size c.deref.ensures.value, c.requires.size, c.requires.limit)
+
+pub nodes_by-requires-clause-free : goal.nodes_by-requires-clause-free
+nodes_by-requires-clause-free g c = omega (arith, c.free.ensures, c.if-free-eq0.false)
+
+pub returns-then-not-made-clause-made : goal.returns-then-not-made-clause-made
+returns-then-not-made-clause-made g c = λ told turned. absurd (true≢false (sym turned ∙ c.if-not-made.true))
+
+pub returns-then-free-eq0-clause-sound : goal.returns-then-free-eq0-clause-sound
+returns-then-free-eq0-clause-sound g c = λ room damage. omega (arith, room c.if-not-made.false, c.free.ensures, c.if-free-eq0.true)
+
+pub returns-clause-same : goal.returns-clause-same
+returns-clause-same g c = λ still. absurd (true≢false (sym c.if-not-made.false ∙ still))
