@@ -1,3 +1,4 @@
+mod Handed
 pub mod Installing
 pub mod LowUnits
 pub mod Sharing

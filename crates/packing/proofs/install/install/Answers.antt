@@ -5,6 +5,7 @@ use Rattle.disk_model.specs.Runs.{disk_trans, leaves_trans}
 use Rattle.volume_model.specs.Committed.{StandsForVolume}
 use Rattle.volume_port.specs.declared.state.VolumeState.{VolumeState}
 use Rattle.compact.specs.Moves.{copies_of}
+use Rattle.packing.proofs.Handed.{no_value}
 use Rattle.packing.proofs.IdleStates.{closed_log, idle_kept}
 use Rattle.packing.proofs.PackFaults.{cause_later, cause_told, damage_told, never_told}
 use Rattle.packing.proofs.SettledParts.{holds_after}
@@ -128,3 +129,35 @@ returns-clause-geometry g c = c.settle.ensures.geometry ∙ ap (λ (v : VolumeSt
 pub returns-clause-cause : goal.returns-clause-cause
 returns-clause-cause g c = IfErr-weaker c.settle.result _ _ (λ fault cause.
     cause_later (g.D.World.outside c.args.disk.now) (g.D.World.outside c.move_working.new.disk) (g.D.World.outside c.settle.new.disk) fault c.move_working.ensures.moved.changes.only.goes.disk_faults cause) c.settle.ensures.cause
+
+-- ---- what else is promised
+
+pub returns-in_err-made-clause-idle : goal.returns-in_err-made-clause-idle
+returns-in_err-made-clause-idle g c = no_value c.from_residual.result _ _ c.from_residual.ensures.1
+
+pub returns-in_err-made-clause-moved : goal.returns-in_err-made-clause-moved
+returns-in_err-made-clause-moved g c = no_value c.from_residual.result _ _ c.from_residual.ensures.1
+
+pub returns-in_err-made-clause-keeps : goal.returns-in_err-made-clause-keeps
+returns-in_err-made-clause-keeps g c = c.move_working.ensures.keeps
+
+pub returns-then-eq-clause-keeps : goal.returns-then-eq-clause-keeps
+returns-then-eq-clause-keeps g c = c.move_working.ensures.keeps
+
+pub returns-clause-keeps : goal.returns-clause-keeps
+returns-clause-keeps g c = c.move_working.ensures.keeps
+
+pub returns-then-eq-clause-sound : goal.returns-then-eq-clause-sound
+returns-then-eq-clause-sound g c = tt
+
+pub returns-then-eq-clause-told : goal.returns-then-eq-clause-told
+returns-then-eq-clause-told g c = tt
+
+pub returns-then-eq-clause-cause : goal.returns-then-eq-clause-cause
+returns-then-eq-clause-cause g c = tt
+
+pub returns-clause-idle : goal.returns-clause-idle
+returns-clause-idle g c = c.settle.ensures.idle
+
+pub returns-clause-told : goal.returns-clause-told
+returns-clause-told g c = c.settle.ensures.told

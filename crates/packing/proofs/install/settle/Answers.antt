@@ -2,6 +2,7 @@ use Rattle.std.proofs.Common.{◌∙◌, Err, ap, arith}
 use Rattle.ex_base.proofs.Results.{if_err_handed}
 use Rattle.disk_model.specs.Runs.{honest_on, leaves_trans, reads_refl}
 use Rattle.volume_model.specs.Committed.{StandsForVolume}
+use Rattle.packing.proofs.Handed.{no_value}
 use Rattle.packing.proofs.PackFaults.{cause_told, cause_uncommitted, damage_told, never_told, never_uncommitted, no_damage}
 use Rattle.packing.proofs.SettledParts.{checkpoint_geometry, checkpoint_room, checkpoint_sizes, commit_behind, commit_catalog, commit_few, commit_geometry, commit_logged, commit_room, commit_sizes, fits_counted, gave_of, idle_after, kept_of, told_after, with_catalog_image, wrote_of}
 use Rattle.packing.proofs.Settlings.{commit_moments, first_moments, gone_owns, home_moments, settled}
@@ -150,3 +151,38 @@ pub returns-in_err-checkpoint-clause-cause : goal.returns-in_err-checkpoint-clau
 returns-in_err-checkpoint-clause-cause g c =
     if_err_handed c.from_residual-in_err-checkpoint.result _ _ c.from_residual-in_err-checkpoint.ensures.1
     (omega (arith, c.release_root.ensures.gives.only.nothing.only.goes.disk_faults, c.commit.ensures.only.goes.disk_faults, c.in_err-checkpoint.ensures.cause))
+
+-- ---- what else is promised
+
+pub returns-in_err-edit-clause-idle : goal.returns-in_err-edit-clause-idle
+returns-in_err-edit-clause-idle g c = no_value c.from_residual.result _ _ c.from_residual.ensures.1
+
+pub returns-in_err-edit-clause-moved : goal.returns-in_err-edit-clause-moved
+returns-in_err-edit-clause-moved g c = no_value c.from_residual.result _ _ c.from_residual.ensures.1
+
+pub returns-in_err-release_root-clause-idle : goal.returns-in_err-release_root-clause-idle
+returns-in_err-release_root-clause-idle g c = no_value c.from_residual-in_err-release_root.result _ _ c.from_residual-in_err-release_root.ensures.1
+
+pub returns-in_err-release_root-clause-moved : goal.returns-in_err-release_root-clause-moved
+returns-in_err-release_root-clause-moved g c = no_value c.from_residual-in_err-release_root.result _ _ c.from_residual-in_err-release_root.ensures.1
+
+pub returns-in_err-commit-clause-idle : goal.returns-in_err-commit-clause-idle
+returns-in_err-commit-clause-idle g c = no_value c.from_residual-in_err-commit.result _ _ c.from_residual-in_err-commit.ensures.1
+
+pub returns-in_err-commit-clause-moved : goal.returns-in_err-commit-clause-moved
+returns-in_err-commit-clause-moved g c = no_value c.from_residual-in_err-commit.result _ _ c.from_residual-in_err-commit.ensures.1
+
+pub returns-in_err-checkpoint-clause-idle : goal.returns-in_err-checkpoint-clause-idle
+returns-in_err-checkpoint-clause-idle g c = no_value c.from_residual-in_err-checkpoint.result _ _ c.from_residual-in_err-checkpoint.ensures.1
+
+pub returns-in_err-checkpoint-clause-moved : goal.returns-in_err-checkpoint-clause-moved
+returns-in_err-checkpoint-clause-moved g c = no_value c.from_residual-in_err-checkpoint.result _ _ c.from_residual-in_err-checkpoint.ensures.1
+
+pub returns-clause-sound : goal.returns-clause-sound
+returns-clause-sound g c = tt
+
+pub returns-clause-told : goal.returns-clause-told
+returns-clause-told g c = tt
+
+pub returns-clause-cause : goal.returns-clause-cause
+returns-clause-cause g c = tt

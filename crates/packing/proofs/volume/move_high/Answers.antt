@@ -3,6 +3,7 @@ use Rattle.std.proofs.lemmas.Result.{IfErr-weaker}
 use Rattle.ex_base.proofs.Results.{if_err_handed}
 use Rattle.disk_model.specs.Runs.{disk_trans}
 use Rattle.volume_port.specs.declared.state.VolumeState.{VolumeState}
+use Rattle.packing.proofs.Handed.{no_value}
 use Rattle.packing.specs.Faults.{told_of}
 use Rattle.packing.proofs.FaultsTold.{cause_told, damage_told, lacks_weaker, never_told, nothing_lacks}
 use Rattle.packing.proofs.Moments.{keeps_on, keeps_read, same_refl}
@@ -77,3 +78,8 @@ pub returns-clause-cause : goal.returns-clause-cause
 returns-clause-cause g c = IfErr-weaker c.pack_files.result _ _ (λ why cause.
     let reads = c.start_of.ensures.keeps.only in
     cause_since (g.D.World.outside c.args.disk.now) (g.D.World.outside c.start_of.new.disk) (g.D.World.outside c.pack_files.new.disk) why reads.nothing.only cause) c.pack_files.ensures.cause
+
+-- ---- what else is promised
+
+pub returns-in_err-start-clause-moved : goal.returns-in_err-start-clause-moved
+returns-in_err-start-clause-moved g c = no_value c.from_residual.result _ (told_of c.in_err-start.field-0.0) c.from_residual.ensures.1

@@ -3,6 +3,7 @@ use Rattle.ex_base.specs.declared.geometry.Geometry.{Geometry}
 use Rattle.ex_base.proofs.Results.{if_err_handed}
 use Rattle.compact.specs.Moves.{copies_of}
 use Rattle.disk_model.specs.Runs.{disk_trans}
+use Rattle.packing.proofs.Handed.{no_value}
 use Rattle.packing.proofs.SoFar.{all_moved, cause_since, keeps_then, never_then, none_moved, one_more}
 use Rattle.packing.proofs.volume.move_versions.Goals as goal
 
@@ -55,3 +56,29 @@ returns-clause-moved g c = λ d image later object p are enough.
 
 pub returns-clause-keeps : goal.returns-clause-keeps
 returns-clause-keeps g c = λ d image later object p are enough. let both = c.loop-version.invariant.until d image later object p are enough in both.1
+
+-- ---- what else is promised
+
+pub returns-in_err-install-clause-idle : goal.returns-in_err-install-clause-idle
+returns-in_err-install-clause-idle g c = no_value c.from_residual.result _ c.in_err-install.field-0.0 c.from_residual.ensures.1
+
+pub returns-in_err-install-clause-moved : goal.returns-in_err-install-clause-moved
+returns-in_err-install-clause-moved g c = no_value c.from_residual.result _ c.in_err-install.field-0.0 c.from_residual.ensures.1
+
+pub returns-in_err-install-clause-told : goal.returns-in_err-install-clause-told
+returns-in_err-install-clause-told g c = if_err_handed c.from_residual.result _ c.in_err-install.field-0.0 c.from_residual.ensures.1 c.in_err-install.ensures.told
+
+pub returns-clause-geometry : goal.returns-clause-geometry
+returns-clause-geometry g c = c.loop-version.invariant.geometry
+
+pub returns-clause-only : goal.returns-clause-only
+returns-clause-only g c = c.loop-version.invariant.only
+
+pub returns-clause-told : goal.returns-clause-told
+returns-clause-told g c = tt
+
+pub returns-clause-sound : goal.returns-clause-sound
+returns-clause-sound g c = tt
+
+pub returns-clause-cause : goal.returns-clause-cause
+returns-clause-cause g c = tt

@@ -1,6 +1,7 @@
 use Rattle.std.proofs.Common.{refl}
 use Rattle.ex_base.proofs.Results.{if_err_handed}
 use Rattle.disk_model.specs.Runs.{disk_refl}
+use Rattle.packing.proofs.Handed.{no_value}
 use Rattle.packing.proofs.Moments.{holds_now, keeps_now}
 use Rattle.packing.proofs.Outcomes.{few_free, lacks_never, lacks_none, packed_already, packed_now, segs_are, stopped, told_lacks}
 use Rattle.packing.proofs.volume.pack.Goals as goal
@@ -77,3 +78,26 @@ returns-clause-any_moment g c = λ d image rests. let keeps = c.move_high.ensure
 
 pub returns-clause-holds : goal.returns-clause-holds
 returns-clause-holds g c = λ d image rests. let keeps = c.move_high.ensures.keeps d image rests in keeps.holds
+
+-- ---- what else is promised
+
+pub returns-then-moved-eq0-clause-sound : goal.returns-then-moved-eq0-clause-sound
+returns-then-moved-eq0-clause-sound g c = tt
+
+pub returns-then-moved-eq0-clause-cause : goal.returns-then-moved-eq0-clause-cause
+returns-then-moved-eq0-clause-cause g c = tt
+
+pub returns-in_err-move_high-clause-only : goal.returns-in_err-move_high-clause-only
+returns-in_err-move_high-clause-only g c = c.move_high.ensures.only
+
+pub returns-in_err-move_high-clause-packed : goal.returns-in_err-move_high-clause-packed
+returns-in_err-move_high-clause-packed g c = no_value c.from_residual.result _ c.in_err-move_high.field-0.0 c.from_residual.ensures.1
+
+pub returns-clause-only : goal.returns-clause-only
+returns-clause-only g c = c.move_high.ensures.only
+
+pub returns-clause-sound : goal.returns-clause-sound
+returns-clause-sound g c = tt
+
+pub returns-clause-cause : goal.returns-clause-cause
+returns-clause-cause g c = tt

@@ -4,6 +4,7 @@ use Rattle.ex_base.proofs.Results.{if_err_handed}
 use Rattle.ex_base.specs.declared.geometry.Geometry.{Geometry}
 use Rattle.disk_model.specs.Runs.{disk_trans}
 use Rattle.volume_port.specs.declared.state.VolumeState.{VolumeState}
+use Rattle.packing.proofs.Handed.{no_value}
 use Rattle.packing.specs.Faults.{told_of}
 use Rattle.packing.specs.declared.objects.LargeVersion.{LargeVersion}
 use Rattle.packing.proofs.FaultsTold.{cause_told, damage_told, lacks_weaker, never_told, nothing_lacks}
@@ -123,3 +124,41 @@ returns-clause-keeps g c = λ d image e f later has is p.
     let done = file_done (g.D.World.outside c.args.disk.now) (g.D.World.outside c.objects.disk) c.args.volume.now c.objects.volume c.args.start.now c.args.file_no c.in_ok-versions.versions.items c.objects.at
     (omega (arith, c.objects-test.false, c.len.ensures)) c.objects.invariant d image e f later has is p in
     done.keeps
+
+-- ---- what else is promised
+
+pub returns-in_err-versions-clause-idle : goal.returns-in_err-versions-clause-idle
+returns-in_err-versions-clause-idle g c = no_value c.from_residual.result _ (told_of c.in_err-versions.field-0.0) c.from_residual.ensures.1
+
+pub returns-in_err-versions-clause-moved : goal.returns-in_err-versions-clause-moved
+returns-in_err-versions-clause-moved g c = no_value c.from_residual.result _ (told_of c.in_err-versions.field-0.0) c.from_residual.ensures.1
+
+pub returns-in_err-versions-clause-enough : goal.returns-in_err-versions-clause-enough
+returns-in_err-versions-clause-enough g c = no_value c.from_residual.result _ (told_of c.in_err-versions.field-0.0) c.from_residual.ensures.1
+
+pub returns-in_err-pack_object-clause-idle : goal.returns-in_err-pack_object-clause-idle
+returns-in_err-pack_object-clause-idle g c = no_value c.from_residual-in_err-pack_object.result _ c.in_err-pack_object.field-0.0 c.from_residual-in_err-pack_object.ensures.1
+
+pub returns-in_err-pack_object-clause-moved : goal.returns-in_err-pack_object-clause-moved
+returns-in_err-pack_object-clause-moved g c = no_value c.from_residual-in_err-pack_object.result _ c.in_err-pack_object.field-0.0 c.from_residual-in_err-pack_object.ensures.1
+
+pub returns-in_err-pack_object-clause-enough : goal.returns-in_err-pack_object-clause-enough
+returns-in_err-pack_object-clause-enough g c = no_value c.from_residual-in_err-pack_object.result _ c.in_err-pack_object.field-0.0 c.from_residual-in_err-pack_object.ensures.1
+
+pub returns-clause-idle : goal.returns-clause-idle
+returns-clause-idle g c = c.objects.invariant.idle
+
+pub returns-clause-geometry : goal.returns-clause-geometry
+returns-clause-geometry g c = c.objects.invariant.geometry
+
+pub returns-clause-only : goal.returns-clause-only
+returns-clause-only g c = c.objects.invariant.only
+
+pub returns-clause-lacks : goal.returns-clause-lacks
+returns-clause-lacks g c = tt
+
+pub returns-clause-sound : goal.returns-clause-sound
+returns-clause-sound g c = tt
+
+pub returns-clause-cause : goal.returns-clause-cause
+returns-clause-cause g c = tt

@@ -4,6 +4,7 @@ use Rattle.ex_base.specs.declared.geometry.Geometry.{Geometry}
 use Rattle.disk_model.specs.Runs.{disk_refl, disk_trans}
 use Rattle.object_files.specs.Catalog.{CatalogOf}
 use Rattle.object_files.specs.Reads.{entry_of}
+use Rattle.packing.proofs.Handed.{no_value}
 use Rattle.packing.proofs.FaultsTold.{lacks_weaker}
 use Rattle.packing.proofs.Files.{enough_all, file_packed, keeps_all, keeps_then, lacks_then, never_then, no_files, packed_all}
 use Rattle.packing.proofs.Moments.{keeps_now}
@@ -83,3 +84,35 @@ pub returns-clause-keeps : goal.returns-clause-keeps
 returns-clause-keeps g c = λ d image p.
     keeps_all (g.D.World.outside c.args.disk.now) (g.D.World.outside c.loop-at.disk) c.args.volume.now c.loop-at.volume c.args.start.now c.loop-at.at c.in-Some.catalog
     (subst (λ (page : List ℕ). CatalogOf page c.in-Some.catalog) c.deref.ensures.value c.in-Some.ensures.found) (omega (arith, c.loop-at-test.false, c.len-at-end.ensures)) c.loop-at.invariant d image p
+
+-- ---- what else is promised
+
+pub returns-in_default-clause-geometry : goal.returns-in_default-clause-geometry
+returns-in_default-clause-geometry g c = refl
+
+pub returns-in_default-clause-moved : goal.returns-in_default-clause-moved
+returns-in_default-clause-moved g c = tt
+
+pub returns-in_default-clause-enough : goal.returns-in_default-clause-enough
+returns-in_default-clause-enough g c = tt
+
+pub returns-in_err-pack_file-clause-moved : goal.returns-in_err-pack_file-clause-moved
+returns-in_err-pack_file-clause-moved g c = no_value c.from_residual.result _ c.in_err-pack_file.field-0.0 c.from_residual.ensures.1
+
+pub returns-in_err-pack_file-clause-enough : goal.returns-in_err-pack_file-clause-enough
+returns-in_err-pack_file-clause-enough g c = no_value c.from_residual.result _ c.in_err-pack_file.field-0.0 c.from_residual.ensures.1
+
+pub returns-clause-geometry : goal.returns-clause-geometry
+returns-clause-geometry g c = c.loop-at.invariant.geometry
+
+pub returns-clause-only : goal.returns-clause-only
+returns-clause-only g c = c.loop-at.invariant.only
+
+pub returns-clause-lacks : goal.returns-clause-lacks
+returns-clause-lacks g c = tt
+
+pub returns-clause-sound : goal.returns-clause-sound
+returns-clause-sound g c = tt
+
+pub returns-clause-cause : goal.returns-clause-cause
+returns-clause-cause g c = tt

@@ -3,6 +3,7 @@ use Rattle.std.proofs.lemmas.Result.{IfErr-weaker, on_ok_weaker}
 use Rattle.ex_base.proofs.Results.{if_err_handed, on_ok_from}
 use Rattle.disk_model.specs.Runs.{disk_trans}
 use Rattle.volume_port.specs.declared.state.VolumeState.{VolumeState}
+use Rattle.packing.proofs.Handed.{no_value}
 use Rattle.packing.specs.Faults.{told_of}
 use Rattle.packing.proofs.Ends.{roots_inside, same_need}
 use Rattle.packing.proofs.FaultsTold.{cause_told, damage_told, never_told, nothing_lacks}
@@ -110,3 +111,32 @@ pub returns-clause-cause : goal.returns-clause-cause
 returns-clause-cause g c = IfErr-weaker c.move_versions.result _ _ (λ why cause.
     let reads = c.pages_needed.ensures.keeps.only in
     cause_since (g.D.World.outside c.args.disk.now) (g.D.World.outside c.pages_needed.new.disk) (g.D.World.outside c.move_versions.new.disk) why reads.nothing.only cause) c.move_versions.ensures.cause
+
+-- ---- what else is promised
+
+pub returns-in_err-need-clause-idle : goal.returns-in_err-need-clause-idle
+returns-in_err-need-clause-idle g c = no_value c.from_residual.result _ (told_of c.in_err-need.field-0.0) c.from_residual.ensures.1
+
+pub returns-in_err-need-clause-moved : goal.returns-in_err-need-clause-moved
+returns-in_err-need-clause-moved g c = no_value c.from_residual.result _ (told_of c.in_err-need.field-0.0) c.from_residual.ensures.1
+
+pub returns-in_err-need-clause-enough : goal.returns-in_err-need-clause-enough
+returns-in_err-need-clause-enough g c = no_value c.from_residual.result _ (told_of c.in_err-need.field-0.0) c.from_residual.ensures.1
+
+pub returns-then-free-need-clause-idle : goal.returns-then-free-need-clause-idle
+returns-then-free-need-clause-idle g c = tt
+
+pub returns-then-free-need-clause-moved : goal.returns-then-free-need-clause-moved
+returns-then-free-need-clause-moved g c = tt
+
+pub returns-then-free-need-clause-enough : goal.returns-then-free-need-clause-enough
+returns-then-free-need-clause-enough g c = tt
+
+pub returns-then-free-need-clause-cause : goal.returns-then-free-need-clause-cause
+returns-then-free-need-clause-cause g c = tt
+
+pub returns-then-free-need-clause-sound : goal.returns-then-free-need-clause-sound
+returns-then-free-need-clause-sound g c = λ damage. absurd damage
+
+pub returns-clause-idle : goal.returns-clause-idle
+returns-clause-idle g c = c.move_versions.ensures.idle
