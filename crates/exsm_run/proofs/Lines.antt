@@ -1,5 +1,5 @@
 -- What the sending of one line leaves, and the statuses of commands that send one.
-use Rattle.std.proofs.Common.{◌≡◌, ◌⊎◌, ⊎_elim, ℕ, ◌≤◌, List, Some, arith, inl, inr, sym, subst}
+use Rattle.std.proofs.Common.{◌≡◌, ◌∙◌, ◌⊎◌, ⊎_elim, ℕ, ◌≤◌, List, [], ◌++◌, Some, append_assoc, arith, inl, inr, sym, subst}
 use Rattle.disk_model.specs.Outside.{Outside, Between, IsWorld, Leaves, SinkOnly}
 use Rattle.disk_model.specs.Runs.{adds_wider, leaves_trans}
 use Rattle.table_model.specs.declared.table.Table.{Table}
@@ -10,6 +10,10 @@ use Rattle.command_line.specs.declared.status.Status.{Status}
 use Rattle.command_line.specs.declared.status.Status.TheVariants as status
 use Rattle.exsm_run.specs.Check.{IsLineStatus}
 use Rattle.exsm_run.specs.Openings.{OpeningPromise}
+
+-- a line of five parts, which were put behind each other one by one
+pub parts_joined : (a b c d e : List ℕ) → (((([] ++ a) ++ b) ++ c) ++ d) ++ e ≡ a ++ (b ++ (c ++ (d ++ e)))
+parts_joined a b c d e = append_assoc ((a ++ b) ++ c) d e ∙ append_assoc (a ++ b) c (d ++ e) ∙ append_assoc a b (c ++ (d ++ e))
 
 -- While a line is sent, a crash leaves what it could leave before.
 pub leaves_sink : {a b c : Outside} (Q : List ℕ → Type 0) → IsWorld b → Leaves a b Q → SinkOnly b c → Leaves a c Q

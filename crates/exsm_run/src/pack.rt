@@ -1,5 +1,5 @@
 //! A volume whose units in use are made the lowest ones.
-ghost use Rattle.std.specs.Prelude.{◌≡◌, ◌≢◌, IfOk, string_bytes};
+ghost use Rattle.std.specs.Prelude.{◌≡◌, ◌≢◌};
 ghost use Rattle.disk_model.specs.Outside.{Goes, Rose};
 ghost use Rattle.ex_base.specs.declared.names.PageNo.{PageNo};
 ghost use Rattle.ex_base.specs.declared.faults.Seen.{Seen};
@@ -8,9 +8,14 @@ ghost use Rattle.exsm_run.specs.Status.{IsRefusal};
 
 use crate::opening::opened;
 use crate::status::Status;
+use arrayvec::ArrayString;
 use disk_model::{Host, send_all};
+use itoa::Buffer;
 use packing::{PackFault, Packed, pack};
-use std::alloc::{AllocError, Global};
+use std::alloc::Global;
+
+/// The most bytes of the line: its words, and the digits of two numbers.
+const LINE_MOST: usize = 41;
 
 // The status where a volume wasn't packed.
 fn status_unpacked(fault: PackFault) -> Status
@@ -24,12 +29,19 @@ fn status_unpacked(fault: PackFault) -> Status
     }
 }
 
-fn line_of(alloc: Global, packed: &Packed) -> Result<String, AllocError>
-    ensures { IfOk result
-        (λ line. string_bytes line ≡ pack_line packed.now.moved packed.now.segs) }
+// The line, which stands in a buffer: behind a pack no memory is wanted.
+fn line_of(packed: &Packed) -> ArrayString<LINE_MOST>
+    ensures { result.bytes ≡ pack_line packed.now.moved packed.now.segs }
 {
-    let Packed { moved, segs } = *packed;
-    format!(in alloc; "ok pack moved {moved} segs {segs}\n")
+    let mut moved = Buffer::new();
+    let mut segs = Buffer::new();
+    let mut line = ArrayString::new();
+    line.push_str("ok pack moved ");
+    line.push_str(moved.format(packed.moved));
+    line.push_str(" segs ");
+    line.push_str(segs.format(packed.segs));
+    line.push_str("\n");
+    line
 }
 
 /// Opens the volume on the disk, which tests it whole, moves the trees of its versions until its units in use of the segment area are the lowest ones, and sends a
@@ -54,10 +66,8 @@ pub fn packed<H: Host>(alloc: Global, host: &mut H) -> Status
         Ok(packed) => packed,
         Err(fault) => return status_unpacked(fault),
     };
-    let Ok(line) = line_of(alloc, &packed) else {
-        return Status::Memory;
-    };
-    if send_all(host, line.as_bytes()).is_err() {
+    let line = line_of(&packed);
+    if send_all(host, line.as_str().as_bytes()).is_err() {
         return Status::OutputFault;
     }
     Status::Done

@@ -1,17 +1,14 @@
-use Rattle.std.proofs.Common.{◌≡◌, ◌∙◌, ℕ, List, [], ◌∷◌, ◌++◌, append_assoc}
+use Rattle.std.proofs.Common.{[], ◌∷◌}
 use Rattle.std.specs.Prelude.{codes, decimal}
 use Rattle.exsm_run.specs.Load.{load_line}
+use Rattle.exsm_run.proofs.Lines.{parts_joined}
 use Rattle.exsm_run.proofs.load.line_of.Goals as goal
-
--- parts that were put behind each other one by one
-parts : (a b c d e : List ℕ) → (((([] ++ a) ++ b) ++ c) ++ d) ++ e ≡ a ++ (b ++ (c ++ (d ++ e)))
-parts a b c d e = append_assoc ((a ++ b) ++ c) d e ∙ append_assoc (a ++ b) c (d ++ e) ∙ append_assoc a b (c ++ (d ++ e))
 
 pub returns : goal.returns
 unfolding load_line
 returns c =
     cc (
-      parts (codes "ok load versions ") (decimal c.args.totals.now.versions) (codes " segs ") (decimal c.args.totals.now.leaves) (10 ∷ []),
+      parts_joined (codes "ok load versions ") (decimal c.args.totals.now.versions) (codes " segs ") (decimal c.args.totals.now.leaves) (10 ∷ []),
       c.new-line.ensures,
       c.push_str.ensures.bytes,
       c.format.ensures.text,

@@ -4,7 +4,7 @@ use Rattle.ex_base.proofs.Results.{if_no_error}
 use Rattle.runs.proofs.Sending.{at_err}
 use Rattle.command_line.specs.declared.status.Status.{Status}
 use Rattle.exsm_run.specs.Pack.{PackPromise}
-use Rattle.exsm_run.proofs.Checking.{cut_line, unsent, whole_line}
+use Rattle.exsm_run.proofs.Checking.{cut_line, whole_line}
 use Rattle.exsm_run.proofs.Loading.{line_told}
 use Rattle.exsm_run.proofs.Packing.{Packing, can_pack, pack_failed, pack_sent, pack_unopened}
 use Rattle.exsm_run.proofs.pack.packed.Given as given
@@ -35,23 +35,6 @@ returns-in-Err-pack-clause-promise g c =
       lacking = c.in-Err-pack.ensures.lacking;
     }))
 
-pub returns-in_default-clause-promise : goal.returns-in_default-clause-promise
-returns-in_default-clause-promise g c =
-    pack_sent (record {
-      opening = c.opened.ensures.only;
-      same = c.in-Ok.ensures.same;
-      moments = c.opened.ensures.any_moment;
-      stood = c.in-Ok.ensures.stood;
-      only = c.pack.ensures.only;
-      any_moment = c.pack.ensures.any_moment;
-      holds = c.pack.ensures.holds;
-    }) _ (record {
-      world = g.H.World.is_world c.pack.new.disk;
-      done = c.in-Ok-pack.ensures.packed;
-      enough = c.in-Ok-pack.ensures.lacking;
-      sent = unsent (g.H.World.outside c.pack.new.disk) _;
-    })
-
 pub returns-then-is_err-clause-promise : goal.returns-then-is_err-clause-promise
 returns-then-is_err-clause-promise g c =
     pack_sent (record {
@@ -66,7 +49,7 @@ returns-then-is_err-clause-promise g c =
       world = g.H.World.is_world c.pack.new.disk;
       done = c.in-Ok-pack.ensures.packed;
       enough = c.in-Ok-pack.ensures.lacking;
-      sent = line_told _ c.as_bytes.result.now _ (c.as_bytes.ensures.value ∙ c.in-Ok-line_of.ensures)
+      sent = line_told _ c.as_bytes.result.now _ (c.as_bytes.ensures.value ∙ c.as_str.ensures.value ∙ c.line_of-line.ensures)
           (cut_line c.as_bytes.result.now c.send_all.ensures.only (at_err c.send_all.result _ (sym c.is_err.ensures.value ∙ c.if-is_err.true) c.send_all.ensures.cause)
           (at_err c.send_all.result _ (sym c.is_err.ensures.value ∙ c.if-is_err.true) c.send_all.ensures.failed));
     })
@@ -85,7 +68,7 @@ returns-clause-promise g c =
       world = g.H.World.is_world c.pack.new.disk;
       done = c.in-Ok-pack.ensures.packed;
       enough = c.in-Ok-pack.ensures.lacking;
-      sent = line_told _ c.as_bytes.result.now _ (c.as_bytes.ensures.value ∙ c.in-Ok-line_of.ensures)
+      sent = line_told _ c.as_bytes.result.now _ (c.as_bytes.ensures.value ∙ c.as_str.ensures.value ∙ c.line_of-line.ensures)
           (whole_line c.as_bytes.result.now c.send_all.ensures.only (if_no_error c.send_all.result (sym c.is_err.ensures.value ∙ c.if-is_err.false) c.send_all.ensures.sent));
     })
 
