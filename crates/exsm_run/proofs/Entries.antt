@@ -19,6 +19,7 @@ use Rattle.ex_base.specs.Area.{log_at}
 use Rattle.page_alloc.specs.UnitSet.{free_count, used_at}
 use Rattle.session_core.proofs.Refusing.{free_left}
 use Rattle.table_model.specs.Tables.{objects_of}
+use Rattle.table_model.specs.declared.table.Table.{Table}
 use Rattle.trees.specs.Trees.{Units}
 use Rattle.trees.proofs.KeptRoots.{RootKept}
 use Rattle.version_lists.specs.declared.version.Object.{Object}
@@ -33,11 +34,12 @@ use Rattle.volume_model.proofs.OneVolume.{one_geometry}
 use Rattle.volume_port.specs.declared.state.VolumeState.{VolumeState}
 use Rattle.compact.specs.High.{each_once, need_of, root_nodes_above}
 use Rattle.packing.specs.Dense.{HasEnough, IsFirstLacking, all_objects, is_of, need_in, roots_of_object}
+use Rattle.packing.specs.Loop.{HasLowTree, StopsLow}
 use Rattle.packing.specs.Packing.{LacksPages, high_used, pages_free, segs_used}
 use Rattle.packing.proofs.Counted.{same_nodes}
 use Rattle.restart.specs.Opening.{RestsAs}
 use Rattle.restart.proofs.Opened.{kept_after, same_reach_after}
-use Rattle.exsm_run.specs.Pack.{HighAtEntry, LacksAtEntry, Reaches}
+use Rattle.exsm_run.specs.Pack.{HighAtEntry, HoldsPackedBefore, LacksAtEntry, Reaches}
 
 -- ---- an image decodes in one way
 
@@ -70,14 +72,14 @@ one_decoded image d e (super, (log, content)) (super', (log', content')) =
 
 -- ---- the first object that lacks pages, where each needs as many
 
-first_lacking : (d e : Decoded) (image other : List ℕ) (dense free need : ℕ) (objects others : List Object) → ((o : Object) → need_in d image dense o ≡ need_in e other dense o) → objects ≡ others
-    → IsFirstLacking d image dense free need objects → IsFirstLacking e other dense free need others
-first_lacking d e image other dense free need objects others same list first = record {
+abbrev first_lacking : (d e : Decoded) (image other : List ℕ) (dense now free need : ℕ) (objects others : List Object) → ((o : Object) → need_in d image dense o ≡ need_in e other now o) → objects ≡ others
+    → IsFirstLacking d image dense free need objects → IsFirstLacking e other now free need others
+first_lacking d e image other dense now free need objects others same list first = record {
   before = first.before;
   object = first.object;
   behind = first.behind;
   parted = sym list ∙ first.parted;
-  enough = each_as (HasEnough d image dense free) (HasEnough e other dense free) first.before (λ o few. omega (arith, few, same o)) first.enough;
+  enough = each_as (HasEnough d image dense free) (HasEnough e other now free) first.before (λ o few. omega (arith, few, same o)) first.enough;
   need_is = first.need_is ∙ same first.object;
   more = first.more;
 }
@@ -138,7 +140,7 @@ module _ {w : Outside} {volume : VolumeState} {image : List ℕ} (at : RestsAs i
           ∙ ap (λ (g : Geometry). segs - used_below used (unit_at g Segment) segs) (sym at.rests.geometry);
     }
 
-    pub lacks_at_entry : (need free : ℕ) → LacksPages volume (with_records at.decoded [] at.decoded.volume) at.disk need free → LacksAtEntry entry need free
+    abbrev pub lacks_at_entry : (need free : ℕ) → LacksPages volume (with_records at.decoded [] at.decoded.volume) at.disk need free → LacksAtEntry entry need free
     lacks_at_entry need free lacks = record {
       image = image;
       holds = holds;
@@ -146,8 +148,21 @@ module _ {w : Outside} {volume : VolumeState} {image : List ℕ} (at : RestsAs i
       used = used_at volume.units;
       reaches = entry_reaches;
       free_are = lacks.0 ∙ pages_here;
-      lacking = subst (λ (n : ℕ). IsFirstLacking at.decoded image n free need (all_objects at.decoded image)) segs_in_use
-          (first_lacking (with_records at.decoded [] at.decoded.volume) at.decoded at.disk image (segs_used volume) free need _ _ (needs_same (segs_used volume)) objects_same lacks.1);
+      lacking = first_lacking (with_records at.decoded [] at.decoded.volume) at.decoded at.disk image (segs_used volume) (used_in at.decoded.geometry (used_at volume.units) Segment) free need _ _
+          (λ o. needs_same (segs_used volume) o ∙ ap (λ (n : ℕ). need_in at.decoded image n o) segs_in_use) objects_same lacks.1;
+    }
+
+    -- where the objects before it were moved
+    pub stops_at_entry : (after : Outside) (new : VolumeState) (table : Table) (need free : ℕ) → (stops : StopsLow after volume new (with_records at.decoded [] at.decoded.volume) at.disk need free)
+        → table_of (units_of stops.again.decoded stops.again.image) stops.again.decoded.volume ≡ table → HoldsPackedBefore entry after table need free
+    stops_at_entry after new table need free stops same = record {
+      lacks = lacks_at_entry need free stops.lacks;
+      image = stops.again.image;
+      holds = stops.again.rests.holds;
+      stands = record { decoded = stops.again.decoded; parts = stops.again.rests.committed.parts; same = sym same };
+      decoded = stops.again.decoded;
+      parts = stops.again.rests.committed.parts;
+      low = λ s there other. subst (λ (n : ℕ). HasLowTree stops.again.decoded stops.again.image n s) segs_in_use (stops.low s there other);
     }
 
     -- what is told of the entry is told of the state
@@ -160,6 +175,6 @@ module _ {w : Outside} {volume : VolumeState} {image : List ℕ} (at : RestsAs i
         let flags : lacks.used ≡ used = λ k unit. either_same (lacks.used unit) (used unit) (λ is. (entry_reaches.each unit).1 ((there.0.each unit).0 is)) (λ is. (there.0.each unit).1 ((entry_reaches.each unit).0 is)) k in
         let now : Lacking need free image at.decoded used = subst (Lacking need free image at.decoded) flags there in (
           now.1 ∙ sym pages_here,
-          first_lacking at.decoded (with_records at.decoded [] at.decoded.volume) image at.disk (segs_used volume) free need _ _ (λ o. sym (needs_same (segs_used volume) o)) (sym objects_same)
+          first_lacking at.decoded (with_records at.decoded [] at.decoded.volume) image at.disk (segs_used volume) (segs_used volume) free need _ _ (λ o. sym (needs_same (segs_used volume) o)) (sym objects_same)
               (subst (λ (n : ℕ). IsFirstLacking at.decoded image n free need (all_objects at.decoded image)) (sym segs_in_use) now.2),
         )

@@ -19,6 +19,7 @@ use Rattle.volume_port.specs.declared.state.VolumeState.{VolumeState}
 use Rattle.volume_port.specs.State.{IsAtRest}
 use Rattle.restart.specs.Opening.{AreOpened, HoldsAs, RestsAs, StandsForSame}
 use Rattle.restart.proofs.AtRest.{fresh_ready}
+use Rattle.packing.specs.Loop.{StopsLow}
 use Rattle.packing.specs.Packing.{HoldsTableOf, IsPacked, LacksPages, StopsLacking}
 use Rattle.packing.specs.Resting.{IsIdle, PackCause, TellsDamage}
 use Rattle.packing.specs.declared.fault.PackFault.{PackFault}
@@ -34,7 +35,7 @@ use Rattle.exsm_run.specs.Script.{HoldsVolume}
 use Rattle.exsm_run.specs.Status.{IsRefusal}
 use Rattle.exsm_run.proofs.Checking.{SentLine, line_ends, line_good}
 use Rattle.exsm_run.proofs.Ending.{starts_on}
-use Rattle.exsm_run.proofs.Entries.{high_at_entry, lacks_at_entry, lacks_opened}
+use Rattle.exsm_run.proofs.Entries.{high_at_entry, lacks_at_entry, lacks_opened, stops_at_entry}
 use Rattle.exsm_run.proofs.Lines.{leaves_sink, opened_well}
 
 -- ---- a volume that wasn't opened
@@ -64,6 +65,7 @@ pack_unopened {a} {b} s only stops kinds holds moments opening = record {
   table = λ table was on. holds_now b table was on (holds on.image on.honest on.holds);
   settled = λ table was on is d here. absurd (subst (λ (x : Status). StopsCount x a b) is stops);
   lacks = λ need free is. absurd (subst (λ (x : Status). StopsCount x a b) is stops);
+  before_it = λ need free is. absurd (subst (λ (x : Status). StopsCount x a b) is stops);
   lacking = λ need free table was on lacks. inr (kinds table was on);
   moments = moments;
   moments_settled = λ table was on. let starts = starts_on on in leaves_table starts (moments starts.on.image starts.on.honest starts.on.holds);
@@ -168,13 +170,14 @@ fault_is_no_refusal (fault.Damaged page want got) is = is
 fault_is_no_refusal (fault.NoPages need free) is = is
 
 -- what the packing ended as, by a fault
-pub record FailsPacking (b c : Outside) (volume : VolumeState) (f : PackFault) : Type 0 where
+pub record FailsPacking (b c : Outside) (volume new : VolumeState) (f : PackFault) : Type 0 where
   pub cause : PackCause b c f
   pub sound : TellsDamage f → (d : Decoded) (image : List ℕ) → IsAtRest b volume d image → ⊥
   pub lacks : (need free : ℕ) → f ≡ fault.NoPages need free → (d : Decoded) (image : List ℕ) → IsAtRest b volume d image → LacksPages volume d image need free
+  pub before_it : (need free : ℕ) → f ≡ fault.NoPages need free → (d : Decoded) (image : List ℕ) → IsAtRest b volume d image → StopsLow c volume new d image need free
   pub lacking : (d : Decoded) (image : List ℕ) (need free : ℕ) → IsAtRest b volume d image → LacksPages volume d image need free → StopsLacking need free f
 
-module _ {a b c : Outside} {volume : VolumeState} (packing : Packing a b c volume) (f : PackFault) (fails : FailsPacking b c volume f) where
+module _ {a b c : Outside} {volume new : VolumeState} (packing : Packing a b c volume) (f : PackFault) (fails : FailsPacking b c volume new f) where
   good : (table : Table) (was : List ℕ) → HoldsVolume a table was → TellsDamage f → ⊥
   good table was on told =
       let at = packing.same on.image on.honest on.holds in
@@ -203,6 +206,10 @@ module _ {a b c : Outside} {volume : VolumeState} (packing : Packing a b c volum
     table = table_now packing;
     settled = λ table was on is. absurd (undone f is);
     lacks = λ need free is. lacks_so need free (told_pages f need free is);
+    before_it = λ need free is table was on.
+        let at = packing.same on.image on.honest on.holds in
+        let stops = fails.before_it need free (told_pages f need free is) (with_records at.decoded [] at.decoded.volume) at.disk at.rests in
+        stops_at_entry at a on.holds c new table need free stops (stops.again.same.table ∙ table_here packing table was on);
     lacking = λ need free table was on lacks.
         let at = packing.same on.image on.honest on.holds in
         stops_so f need free (fails.lacking (with_records at.decoded [] at.decoded.volume) at.disk need free at.rests (lacks_there packing table was on need free lacks));
@@ -288,6 +295,7 @@ module _ {a b c e : Outside} {old new : VolumeState} {packed : Packed} (packing 
     table = still;
     settled = λ table was on is. settles table was on;
     lacks = λ need free is. absurd (subst IsLineStatus is sends.sent.kind);
+    before_it = λ need free is. absurd (subst IsLineStatus is sends.sent.kind);
     lacking = λ need free table was on lacks. absurd (none_lacks table was on need free lacks);
     moments = along_line;
     moments_settled = λ table was on. let starts = starts_on on in leaves_table starts (along_line starts.on.image starts.on.honest starts.on.holds);

@@ -9,8 +9,9 @@ use Rattle.session_views.specs.Opening.{StandsOpening}
 use Rattle.session_core.specs.Meant.{meant}
 use Rattle.volume_model.specs.Parts.{Decodes, StandsFor}
 use Rattle.volume_model.specs.Shown.{used_below, used_in}
-use Rattle.volume_model.specs.Volume.{Decoded, reach_of, units_of}
+use Rattle.volume_model.specs.Volume.{Decoded, Stored, reach_of, stored_in, units_of}
 use Rattle.packing.specs.Dense.{IsDense, IsFirstLacking, all_objects}
+use Rattle.packing.specs.Loop.{HasLowTree, IsOfNone}
 use Rattle.packing.specs.declared.fault.PackFault.{PackFault}
 use Rattle.packing.specs.declared.fault.PackFault.TheVariants as fault
 use Rattle.command_line.specs.declared.status.Status.{Status}
@@ -61,6 +62,17 @@ pub record HoldsPacked (before after : Outside) (table : Table) (moved segs : �
   pub stands : StandsFor image table
   pub dense : IsDense image segs
   pub high : HighAtEntry before segs moved
+
+-- An object lacked pages at entry, and those before the first one that did were moved: the disk holds a volume of the table in which no tree of another object than
+-- that one and those behind it has a unit that isn't one of the lowest ones, as many as were in use.
+pub record HoldsPackedBefore (before after : Outside) (table : Table) (need free : ℕ) : Type 0 where
+  pub lacks : LacksAtEntry before need free
+  pub image : List ℕ
+  pub holds : after.disk ≡ Some image
+  pub stands : StandsFor image table
+  pub decoded : Decoded
+  pub parts : Decodes image decoded
+  pub low : (s : Stored) → Contains (stored_in decoded.volume) s → IsOfNone (lacks.lacking.object ∷ lacks.lacking.behind) s → HasLowTree decoded image (used_in lacks.decoded.geometry lacks.used Segment) s
 
 -- Behind what was sent before the line was sent, and the volume is packed.
 abbrev pub SendsPacked : Table → List ℕ → Outside → Outside → Type 0
@@ -120,6 +132,8 @@ pub record PackPromise (before after : Outside) (status : Status) : Type 0 where
   pub settled : (table : Table) (was : List ℕ) → HoldsVolume before table was → status ≡ Done → (d : List ℕ) → after.images d → StandsFor d table
   -- The first object that lacks pages is told, and exactly where there is one.
   pub lacks : (need free : ℕ) → status ≡ NoPages need free → (table : Table) (was : List ℕ) → HoldsVolume before table was → LacksAtEntry before need free
+  -- The objects before it were moved.
+  pub before_it : (need free : ℕ) → status ≡ NoPages need free → (table : Table) (was : List ℕ) → HoldsVolume before table was → HoldsPackedBefore before after table need free
   pub lacking : (need free : ℕ) (table : Table) (was : List ℕ) → HoldsVolume before table was → LacksAtEntry before need free
       → (status ≡ NoPages need free) ⊎ ((status ≡ DiskFault) ⊎ (status ≡ Memory))
   -- A crash at any moment leaves what one in an opening may leave: where nothing is pending at entry, the table.

@@ -13,8 +13,8 @@ use Rattle.volume_model.specs.Volume.{Decoded, FileContent, file_of, units_of}
 use Rattle.volume_model.proofs.RulesOfTable.{decodes_with_rules}
 use Rattle.volume_port.specs.State.{IsAtRest}
 use Rattle.volume_port.specs.declared.state.VolumeState.{VolumeState}
-use Rattle.packing.specs.Dense.{HasEnough, IsFirstLacking, need_in}
-use Rattle.packing.specs.Loop.{AreOfObject, HasFileAs, HasListed, IsOfOne, IsPacking, PacksUntil, ReadsAtRest}
+use Rattle.packing.specs.Dense.{HasEnough, need_in}
+use Rattle.packing.specs.Loop.{AreOfObject, HasFileAs, HasListed, IsOfOne, IsPacking, PacksUntil, ReadsAtRest, StopsAt}
 use Rattle.packing.specs.Packing.{KeepsTable}
 use Rattle.packing.specs.Resting.{IsIdle}
 use Rattle.packing.specs.declared.objects.LargeVersion.{LargeVersion}
@@ -23,7 +23,7 @@ use Rattle.packing.proofs.FileObjects.{ObjectsSoFar, before_next, object_packed,
 use Rattle.packing.proofs.FileVersions.{file_grouped}
 use Rattle.packing.proofs.Grouped.{AreGrouped, NextGroup, next_group, none_left}
 use Rattle.packing.proofs.Moments.{keeps_read}
-use Rattle.packing.proofs.PackedObjects.{PacksFrom, keeps_more, packs_none}
+use Rattle.packing.proofs.PackedObjects.{PacksFrom, keeps_more, packs_none, until_read}
 use Rattle.packing.proofs.Reading.{idle_read, packing_read}
 use Rattle.packing.proofs.SoFar.{no_version}
 use Rattle.packing.proofs.Stepping.{whole}
@@ -153,19 +153,22 @@ module _ (w z c : Outside) (old now new : VolumeState) (start : Start) (file_no 
     never_then never = never before.until.again.decoded before.until.again.image (next.behind ++ later) next.object before.until.packing are_now
 
     pub lacks_then : (need free : ℕ)
-        → ((d : Decoded) (image : List ℕ) (object : Object) → IsAtRest z now d image → AreOfObject d.volume object group → (free ≡ start.pages) × (need ≡ need_in d image start.segs object) × (free < need))
-        → (free ≡ start.pages) × IsFirstLacking d image start.segs start.pages need objects
-    lacks_then need free lacks =
-        let told = lacks before.until.again.decoded before.until.again.image next.object before.until.packing.rests are_now in (
+        → ReadsAtRest z c now new × ((d : Decoded) (image : List ℕ) (object : Object) → IsAtRest z now d image → AreOfObject d.volume object group → (free ≡ start.pages) × (need ≡ need_in d image start.segs object) × (free < need))
+        → (free ≡ start.pages) × StopsAt c new d image start need objects later
+    lacks_then need free both =
+        let told = both.1 before.until.again.decoded before.until.again.image next.object before.until.packing.rests are_now in (
           told.0,
           record {
-            before = so_far.done ++ next.skipped;
-            object = next.object;
-            behind = next.behind;
-            parted = so_far.parted ∙ ap (λ (os : List Object). so_far.done ++ os) next.parted ∙ sym (append_assoc so_far.done next.skipped (next.object ∷ next.behind));
-            enough = before.enough;
-            need_is = told.1 ∙ before.until.needs.0;
-            more = omega (arith, told.0, told.2);
+            first = record {
+              before = so_far.done ++ next.skipped;
+              object = next.object;
+              behind = next.behind;
+              parted = so_far.parted ∙ ap (λ (os : List Object). so_far.done ++ os) next.parted ∙ sym (append_assoc so_far.done next.skipped (next.object ∷ next.behind));
+              enough = before.enough;
+              need_is = told.1 ∙ before.until.needs.0;
+              more = omega (arith, told.0, told.2);
+            };
+            until = until_read z c now new d image start (next.object ∷ (next.behind ++ later)) both.0 before.until;
           },
         )
 

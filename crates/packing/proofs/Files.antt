@@ -16,13 +16,13 @@ use Rattle.volume_model.specs.Parts.{HasPages}
 use Rattle.volume_model.specs.Volume.{Decoded, FileContent, file_of, table_of, units_of}
 use Rattle.volume_port.specs.State.{IsAtRest}
 use Rattle.volume_port.specs.declared.state.VolumeState.{VolumeState}
-use Rattle.packing.specs.Dense.{IsFirstLacking, all_objects}
-use Rattle.packing.specs.Loop.{HasFileAs, HaveEnough, IsPacking, KeepsRecords, NeedsAsMuch, PacksUntil}
+use Rattle.packing.specs.Dense.{all_objects}
+use Rattle.packing.specs.Loop.{HasFileAs, HaveEnough, IsPacking, KeepsRecords, NeedsAsMuch, PacksUntil, StopsAt}
 use Rattle.packing.specs.Packing.{KeepsTable}
 use Rattle.packing.specs.Resting.{IsIdle}
 use Rattle.packing.specs.declared.start.Start.{Start}
 use Rattle.packing.proofs.Moments.{keeps_now}
-use Rattle.packing.proofs.PackedObjects.{PacksFrom, keeps_more, lacks_on, packs_none, packs_on}
+use Rattle.packing.proofs.PackedObjects.{PacksFrom, keeps_more, packs_none, packs_on, stops_on}
 
 -- ---- what stands at an index
 
@@ -179,13 +179,13 @@ module _ (w z c : Outside) (old now new : VolumeState) (start : Start) (at : ℕ
         subst (λ (os : List Object). PacksFrom w c new d image start os behind) (sym (to_more (table_at d image).files at (file_of (units_of k later_image) (e, file_now.content)) in_table)) on
 
     pub lacks_then : (need free : ℕ) → ((d : Decoded) (image : List ℕ) (e : FileEntry) (f : FileContent) (later : List Object) → HasFileAs d.volume e f → e.file_no ≡ file_no
-        → IsPacking z now d image start ((file_of (units_of d image) (e, f)).objects ++ later) → (free ≡ start.pages) × IsFirstLacking d image start.segs start.pages need (file_of (units_of d image) (e, f)).objects)
-        → (free ≡ start.pages) × IsFirstLacking d image start.segs start.pages need (all_objects d image)
+        → IsPacking z now d image start ((file_of (units_of d image) (e, f)).objects ++ later) → (free ≡ start.pages) × StopsAt c new d image start need (file_of (units_of d image) (e, f)).objects later)
+        → (free ≡ start.pages) × StopsAt c new d image start need (all_objects d image) []
     unfolding so_far from_here
     lacks_then need free lacks =
         let both = lacks k later_image e file_now.content behind file_now.there number from_here.until.packing in
-        let on = lacks_on w z c now new d image start (objects_to at (table_at d image)) objects_now behind from_here need both.1 in
-        (both.0, subst (IsFirstLacking d image start.segs start.pages need) (ap (λ (os : List Object). objects_to at (table_at d image) ++ os) (sym parted) ∙ both_parts (table_at d image).files at) on)
+        let on = stops_on w z c now new d image start (objects_to at (table_at d image)) objects_now behind from_here need both.1 in
+        (both.0, subst (λ (os : List Object). StopsAt c new d image start need os []) (ap (λ (os : List Object). objects_to at (table_at d image) ++ os) (sym parted) ∙ both_parts (table_at d image).files at) on)
 
     pub never_then : ((d : Decoded) (image : List ℕ) (e : FileEntry) (f : FileContent) (later : List Object) → HasFileAs d.volume e f → e.file_no ≡ file_no
         → IsPacking z now d image start ((file_of (units_of d image) (e, f)).objects ++ later) → ⊥) → ⊥

@@ -1,6 +1,7 @@
 -- Some objects of a volume were packed, and then some more.
 use Rattle.std.proofs.Common.{◌≡◌, ℕ, ◌+◌, ◌<◌, ◌≤◌, List, [], ◌∷◌, ◌++◌, append_assoc, refl, sym, ap, subst, ◌∙◌, arith}
 use Rattle.std.specs.List.{AllByRecursion}
+use Rattle.std.proofs.lemmas.List.{append-nil}
 use Rattle.ex_base.proofs.Each.{each_with, split_each}
 use Rattle.ex_base.proofs.Rows.{each-append}
 use Rattle.disk_model.specs.Outside.{Outside}
@@ -8,10 +9,11 @@ use Rattle.version_lists.specs.declared.version.Object.{Object}
 use Rattle.volume_model.specs.Volume.{Decoded, Volume}
 use Rattle.volume_port.specs.declared.state.VolumeState.{VolumeState}
 use Rattle.packing.specs.Dense.{HasEnough, IsFirstLacking, need_in}
-use Rattle.packing.specs.Loop.{HaveEnough, IsPacking, KeepsRecords, NeedsAsMuch, PacksUntil}
+use Rattle.packing.specs.Loop.{HaveEnough, IsPacking, KeepsRecords, NeedsAsMuch, PacksUntil, ReadsAtRest, StopsAt}
 use Rattle.packing.specs.Packing.{KeepsTable}
 use Rattle.packing.specs.declared.start.Start.{Start}
 use Rattle.packing.proofs.Moments.{keeps_on, same_trans}
+use Rattle.packing.proofs.Reading.{packing_read}
 
 -- Objects were packed, each of which had pages enough, and these are left.
 pub record PacksFrom (w z : Outside) (new : VolumeState) (d : Decoded) (disk : List ℕ) (start : Start) (front rest : List Object) : Type 0 where
@@ -36,6 +38,15 @@ records_on v mid now objects first second =
       λ there. b.0 (a.0 there),
       λ there. a.1 (b.1 there),
     )) first second
+
+-- while frames alone change
+pub until_read : (a b : Outside) (old new : VolumeState) (d : Decoded) (disk : List ℕ) (start : Start) (later : List Object) → ReadsAtRest a b old new → PacksUntil a old d disk start later → PacksUntil b new d disk start later
+until_read a b old new d disk start later reads x = record {
+  again = record { decoded = x.again.decoded; image = x.again.image; rests = reads.rests x.again.decoded x.again.image x.again.rests; same = x.again.same };
+  packing = packing_read a b old new x.again.decoded x.again.image start later reads x.packing;
+  needs = x.needs;
+  records = x.records;
+}
 
 -- none were yet
 pub packs_none : (w z : Outside) (volume : VolumeState) (d : Decoded) (disk : List ℕ) (start : Start) (objects : List Object) → IsPacking z volume d disk start objects → KeepsTable w z d disk → PacksFrom w z volume d disk start [] objects
@@ -100,6 +111,32 @@ module _ (w z c : Outside) (now new : VolumeState) (d : Decoded) (disk : List �
         enough = each-append (HasEnough d disk start.segs start.pages) front lacks.before x.enough (enough_then lacks.before parted.0 lacks.enough);
         need_is = lacks.need_is ∙ parted.1.0;
         more = lacks.more;
+      }
+
+  -- and those before it were packed
+  pub stops_on : (need : ℕ) → StopsAt c new k image start need mid rest → StopsAt c new d disk start need (front ++ (mid ++ rest)) []
+  stops_on need x_stops =
+      let first = x_stops.first in
+      let until = x_stops.until in
+      let left = first.object ∷ (first.behind ++ rest) in
+      let parted : mid ++ rest ≡ first.before ++ left = ap (λ (os : List Object). os ++ rest) first.parted ∙ append_assoc first.before (first.object ∷ first.behind) rest in
+      let needs = split_each (NeedsAsMuch d disk k image start.segs) first.before left (subst (AllByRecursion (NeedsAsMuch d disk k image start.segs)) parted x.until.needs) in
+      let records = split_each (KeepsRecords d.volume k.volume) first.before left (subst (AllByRecursion (KeepsRecords d.volume k.volume)) parted x.until.records) in
+      let all : left ≡ first.object ∷ ((first.behind ++ rest) ++ []) = ap (λ (os : List Object). first.object ∷ os) (sym (append-nil (first.behind ++ rest))) in
+      record {
+        first = lacks_on need first;
+        until = subst (PacksUntil c new d disk start) all (record {
+          again = record {
+            decoded = until.again.decoded;
+            image = until.again.image;
+            rests = until.again.rests;
+            same = same_trans d k until.again.decoded disk image until.again.image x.until.again.same until.again.same;
+          };
+          packing = until.packing;
+          needs = each_with (NeedsAsMuch d disk k image start.segs) (NeedsAsMuch k image until.again.decoded until.again.image start.segs) (NeedsAsMuch d disk until.again.decoded until.again.image start.segs) left
+              (λ o one two. two ∙ one) needs.1 until.needs;
+          records = records_on d.volume k.volume until.again.decoded.volume left records.1 until.records;
+        });
       }
 
 -- ---- the first object that lacks pages is one

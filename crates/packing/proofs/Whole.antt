@@ -1,8 +1,9 @@
 -- A whole volume is packed: before its first object, and when it is dense.
-use Rattle.std.proofs.Common.{◌≡◌, ◌≢◌, inl, inr, ℕ, ◌-◌, ◌<◌, ◌≤◌, Bool, true, false, List, [], ◌∷◌, length, refl, sym, ap, subst, ◌∙◌, arith, true≢false}
+use Rattle.std.proofs.Common.{◌≡◌, ◌≢◌, inl, inr, ℕ, ◌-◌, ◌<◌, ◌≤◌, Bool, true, false, List, [], ◌∷◌, ◌++◌, length, refl, sym, ap, subst, ◌∙◌, arith, true≢false}
 use Rattle.std.specs.Prelude.{Contains, OnOk, Result}
 use Rattle.std.specs.List.{AllByRecursion, flat_map}
 use Rattle.std.proofs.lemmas.Bool.{cases_Bool, cases_lt, le-leb, leb-true}
+use Rattle.std.proofs.lemmas.List.{append-nil}
 use Rattle.std.proofs.lemmas.Nat.{mul-le}
 use Rattle.ex_base.specs.declared.geometry.Geometry.{Geometry}
 use Rattle.ex_base.specs.declared.names.Area.TheVariants.{Segment}
@@ -24,9 +25,9 @@ use Rattle.volume_port.specs.Logged.{is_held}
 use Rattle.volume_port.specs.State.{IsAtRest}
 use Rattle.volume_port.specs.declared.state.VolumeState.{VolumeState}
 use Rattle.compact.specs.High.{each_once, is_high, root_high_leaves, root_nodes_above}
-use Rattle.packing.specs.Dense.{IsDense, IsFirstLacking, all_objects, is_of, need_in, roots_of_object}
-use Rattle.packing.specs.Loop.{HasLowTree, IsPacking, MovesAll, PacksUntil, ReadsAtRest, HaveEnough}
-use Rattle.packing.specs.Packing.{LacksPages, pages_free, segs_used}
+use Rattle.packing.specs.Dense.{HasEnough, IsDense, all_objects, is_of, need_in, roots_of_object}
+use Rattle.packing.specs.Loop.{HasLowTree, HaveEnough, IsOfNone, IsPacking, MovesAll, PacksUntil, ReadsAtRest, StopsAt, StopsLow}
+use Rattle.packing.specs.Packing.{pages_free, segs_used}
 use Rattle.packing.specs.Resting.{IsStartOf}
 use Rattle.packing.specs.declared.start.Start.{Start}
 use Rattle.packing.proofs.Above.{IsHighLeaf, root_leaf_in, root_leaf_of, root_node_of, root_none_in}
@@ -73,14 +74,26 @@ moves_all_of r a b z old mid new start reads since segs pages moved enough =
     moves_all z old new start d image segs pages (until d image p) (most d image p)) moved enough
 
 -- the first object that lacks pages
-pub first_lacks : (old : VolumeState) (start : Start) (d : Decoded) (image : List ℕ) (need free : ℕ) → start.segs ≡ segs_used old → start.pages ≡ pages_free old
-    → (free ≡ start.pages) × IsFirstLacking d image start.segs start.pages need (all_objects d image) → LacksPages old d image need free
-first_lacks old start d image need free segs pages both =
-    let free_is : free ≡ pages_free old = both.0 ∙ pages in (
-      free_is,
-      subst (λ (n : ℕ). IsFirstLacking d image (segs_used old) n need (all_objects d image)) (pages ∙ sym free_is)
-          (subst (λ (n : ℕ). IsFirstLacking d image n start.pages need (all_objects d image)) segs both.1),
-    )
+pub first_lacks : (w : Outside) (old new : VolumeState) (start : Start) (d : Decoded) (image : List ℕ) (need free : ℕ) → start.segs ≡ segs_used old → start.pages ≡ pages_free old
+    → (free ≡ start.pages) × StopsAt w new d image start need (all_objects d image) [] → StopsLow w old new d image need free
+first_lacks w old new start d image need free segs pages both =
+    let first = both.1.first in
+    let until = both.1.until in
+    let free_is : free ≡ pages_free old = both.0 ∙ pages in
+    let none : first.object ∷ (first.behind ++ []) ≡ first.object ∷ first.behind = ap (λ (os : List Object). first.object ∷ os) (append-nil first.behind) in
+    record {
+      lacks = (free_is, record {
+        before = first.before;
+        object = first.object;
+        behind = first.behind;
+        parted = first.parted;
+        enough = subst (λ (n : ℕ). AllByRecursion (HasEnough d image (segs_used old) n) first.before) (pages ∙ sym free_is) (subst (λ (n : ℕ). AllByRecursion (HasEnough d image n start.pages) first.before) segs first.enough);
+        need_is = subst (λ (n : ℕ). need ≡ need_in d image n first.object) segs first.need_is;
+        more = omega (arith, first.more, both.0);
+      });
+      again = until.again;
+      low = λ s there other. subst (λ (n : ℕ). HasLowTree until.again.decoded until.again.image n s) segs (until.packing.low s there (subst (λ (os : List Object). IsOfNone os s) (sym none) other));
+    }
 
 -- ---- units behind so many
 

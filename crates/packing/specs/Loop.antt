@@ -19,9 +19,9 @@ use Rattle.volume_model.specs.Volume.{Decoded, FileContent, Stored, Volume, oid_
 use Rattle.volume_port.specs.declared.state.VolumeState.{VolumeState}
 use Rattle.volume_port.specs.Reading.{CanRead}
 use Rattle.volume_port.specs.State.{IsAtRest}
-use Rattle.packing.specs.Dense.{HasEnough, all_objects, is_of, need_in}
+use Rattle.packing.specs.Dense.{HasEnough, IsFirstLacking, all_objects, is_of, need_in}
 use Rattle.packing.specs.Objects.{AreLargeVersions}
-use Rattle.packing.specs.Packing.{pages_free, segs_used}
+use Rattle.packing.specs.Packing.{LacksPages, pages_free, segs_used}
 use Rattle.packing.specs.Resting.{IsStartOf, RestsAgain}
 use Rattle.packing.specs.declared.objects.LargeVersion.{LargeVersion}
 use Rattle.packing.specs.declared.start.Start.{Start}
@@ -118,6 +118,12 @@ pub record PacksUntil (w : Outside) (volume : VolumeState) (d : Decoded) (disk :
   pub needs : AllByRecursion (NeedsAsMuch d disk again.decoded again.image start.segs) later
   pub records : AllByRecursion (KeepsRecords d.volume again.decoded.volume) later
 
+-- One of these objects is the first that lacks pages, and those before it were packed: the volume is at rest again, and no tree of another object than that one and
+-- those behind it has a high leaf.
+pub record StopsAt (w : Outside) (volume : VolumeState) (d : Decoded) (disk : List ℕ) (start : Start) (need : ℕ) (objects later : List Object) : Type 0 where
+  pub first : IsFirstLacking d disk start.segs start.pages need objects
+  pub until : PacksUntil w volume d disk start (first.object ∷ (first.behind ++ later))
+
 -- no more nodes lead to high leaves in the trees of each of these objects than pages were free at the start
 abbrev pub HaveEnough : Decoded → List ℕ → Start → List Object → Type 0
 HaveEnough d disk start objects = AllByRecursion (HasEnough d disk start.segs start.pages) objects
@@ -129,6 +135,13 @@ pub record MovesAll (w : Outside) (old new : VolumeState) (d : Decoded) (disk : 
   pub segs : segs_used new ≡ segs_used old
   pub low : (s : Stored) → Contains (stored_in again.decoded.volume) s → HasLowTree again.decoded again.image (segs_used old) s
   pub enough : AllByRecursion (HasEnough d disk (segs_used old) (pages_free old)) (all_objects d disk)
+
+-- An object lacks pages. The objects before the first that does were moved: the volume is at rest again, and no tree of another object than that one and those behind
+-- it has a unit that isn't one of so many lowest ones.
+pub record StopsLow (w : Outside) (old new : VolumeState) (d : Decoded) (disk : List ℕ) (need free : ℕ) : Type 0 where
+  pub lacks : LacksPages old d disk need free
+  pub again : RestsAgain w new d disk
+  pub low : (s : Stored) → Contains (stored_in again.decoded.volume) s → IsOfNone (lacks.1.object ∷ lacks.1.behind) s → HasLowTree again.decoded again.image (segs_used old) s
 
 -- ---- between two versions
 

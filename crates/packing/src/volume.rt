@@ -12,8 +12,8 @@ ghost use Rattle.version_lists.specs.declared.version.Object.{Object};
 ghost use Rattle.volume_model.specs.Volume.{Decoded, FileContent, file_of, units_of};
 ghost use Rattle.volume_port.specs.Reading.{CanRead};
 ghost use Rattle.volume_port.specs.State.{IsAtRest};
-ghost use Rattle.packing.specs.Dense.{HasEnough, IsFirstLacking, all_objects, need_in};
-ghost use Rattle.packing.specs.Loop.{AreOfObject, AreRootsIn, HasFileAs, HasFileNo, HasListed, HaveEnough, IsOfOne, IsPacking, MovesAll, PacksUntil, ReadsAtRest, roots_of};
+ghost use Rattle.packing.specs.Dense.{HasEnough, all_objects, need_in};
+ghost use Rattle.packing.specs.Loop.{AreOfObject, AreRootsIn, HasFileAs, HasFileNo, HasListed, HaveEnough, IsOfOne, IsPacking, MovesAll, PacksUntil, ReadsAtRest, StopsAt, StopsLow, roots_of};
 ghost use Rattle.packing.specs.Packing.{HoldsTableOf, IfLacking, IsPacked, KeepsTable, LacksPages, StopsLacking, pages_free, segs_used};
 ghost use Rattle.packing.specs.Resting.{IsIdle, IsStartOf, NeverLacks, PackCause, TellsDamage};
 
@@ -239,11 +239,13 @@ fn pack_object<D: Disk>(
         → IsAtRest (D.outside disk.old) volume.old d image
         → AreOfObject d.volume object versions.now
         → HasEnough d image start.now.segs start.now.pages object) }
-    ensures lacks { IfErr result (λ why. IfLacking why (λ need free. (d : Decoded)
-        (image : List ℕ) (object : Object) → IsAtRest (D.outside disk.old) volume.old d image
+    ensures lacks { IfErr result (λ why. IfLacking why (λ need free.
+        ReadsAtRest (D.outside disk.old) (D.outside disk.new) volume.old volume.new
+        × ((d : Decoded) (image : List ℕ) (object : Object)
+        → IsAtRest (D.outside disk.old) volume.old d image
         → AreOfObject d.volume object versions.now
         → (free ≡ start.now.pages) × (need ≡ need_in d image start.now.segs object)
-        × (free < need))) }
+        × (free < need)))) }
     ensures keeps { (d : Decoded) (image : List ℕ) (later : List Object) (object : Object)
         → IsPacking (D.outside disk.old) volume.old d image start.now (object ∷ later)
         → AreOfObject d.volume object versions.now
@@ -348,8 +350,8 @@ fn pack_file<D: Disk>(
         → HasFileAs d.volume e f → e.file_no ≡ file_no
         → IsPacking (D.outside disk.old) volume.old d image start.now
         ((file_of (units_of d image) (e, f)).objects ++ later)
-        → (free ≡ start.now.pages) × IsFirstLacking d image start.now.segs start.now.pages need
-        (file_of (units_of d image) (e, f)).objects)) }
+        → (free ≡ start.now.pages) × StopsAt (D.outside disk.new) volume.new d image start.now need
+        (file_of (units_of d image) (e, f)).objects later)) }
     ensures keeps { (d : Decoded) (image : List ℕ) (e : FileEntry) (f : FileContent)
         (later : List Object) → HasFileAs d.volume e f → e.file_no ≡ file_no
         → IsPacking (D.outside disk.old) volume.old d image start.now
@@ -392,8 +394,8 @@ fn pack_files<D: Disk>(
     ensures lacks { IfErr result (λ why. IfLacking why (λ need free. (d : Decoded)
         (image : List ℕ)
         → IsPacking (D.outside disk.old) volume.old d image start.now (all_objects d image)
-        → (free ≡ start.now.pages) × IsFirstLacking d image start.now.segs start.now.pages need
-        (all_objects d image))) }
+        → (free ≡ start.now.pages) × StopsAt (D.outside disk.new) volume.new d image start.now need
+        (all_objects d image) [])) }
     ensures keeps { (d : Decoded) (image : List ℕ)
         → IsPacking (D.outside disk.old) volume.old d image start.now (all_objects d image)
         → KeepsTable (D.outside disk.old) (D.outside disk.new) d image }
@@ -460,7 +462,7 @@ fn move_high<D: Disk>(
         → MovesAll (D.outside disk.new) volume.old volume.new d image) }
     ensures lacks { IfErr result (λ why. IfLacking why (λ need free. (d : Decoded)
         (image : List ℕ) → IsAtRest (D.outside disk.old) volume.old d image
-        → LacksPages volume.old d image need free)) }
+        → StopsLow (D.outside disk.new) volume.old volume.new d image need free)) }
     ensures keeps { (d : Decoded) (image : List ℕ)
         → IsAtRest (D.outside disk.old) volume.old d image
         → KeepsTable (D.outside disk.old) (D.outside disk.new) d image }
@@ -490,10 +492,13 @@ pub fn pack<D: Disk>(
         → IsAtRest (D.outside disk.old) volume.old d image
         → IsPacked (D.outside disk.new) volume.old volume.new d image packed) }
 
-    // The first object that lacks pages is told, and exactly where there is one.
+    // The first object that lacks pages is told, and exactly where there is one. Those before it were moved.
     ensures lacks { (need free : ℕ) → result ≡ Err (PackFault.NoPages need free)
         → (d : Decoded) (image : List ℕ) → IsAtRest (D.outside disk.old) volume.old d image
         → LacksPages volume.old d image need free }
+    ensures before { (need free : ℕ) → result ≡ Err (PackFault.NoPages need free)
+        → (d : Decoded) (image : List ℕ) → IsAtRest (D.outside disk.old) volume.old d image
+        → StopsLow (D.outside disk.new) volume.old volume.new d image need free }
     ensures lacking { (d : Decoded) (image : List ℕ) (need free : ℕ)
         → IsAtRest (D.outside disk.old) volume.old d image
         → LacksPages volume.old d image need free

@@ -32,6 +32,7 @@ returns-in-Err-pack-clause-promise g c =
       cause = c.in-Err-pack.ensures.cause;
       sound = c.in-Err-pack.ensures.sound;
       lacks = λ need free is. c.in-Err-pack.ensures.lacks need free (ap (λ f. Err f) is);
+      before_it = λ need free is. c.in-Err-pack.ensures.before need free (ap (λ f. Err f) is);
       lacking = c.in-Err-pack.ensures.lacking;
     }))
 

@@ -55,7 +55,7 @@ returns-clause-moved g c =
 
 pub returns-clause-lacks : goal.returns-clause-lacks
 returns-clause-lacks g c = IfErr-weaker c.pack_files.result _ _ (λ why lacks. lacks_weaker why _ _ (λ need free told d image rests.
-    first_lacks c.args.volume.now c.in_ok-start.start d image need free (c.in_ok-start.ensures.segs ∙ c.requires.segs) c.in_ok-start.ensures.pages
+    first_lacks (g.D.World.outside c.pack_files.new.disk) c.args.volume.now c.pack_files.new.volume c.in_ok-start.start d image need free (c.in_ok-start.ensures.segs ∙ c.requires.segs) c.in_ok-start.ensures.pages
     (told d image (starts (g.D.World.outside c.args.disk.now) (g.D.World.outside c.start_of.new.disk) c.args.volume.now c.start_of.new.volume c.in_ok-start.start d image c.start_of.ensures.keeps rests (c.in_ok-start.ensures.start d image rests)
     (c.in_ok-start.ensures.segs ∙ c.requires.segs) c.in_ok-start.ensures.pages))) lacks) c.pack_files.ensures.lacks
 

@@ -2,6 +2,7 @@ use Rattle.std.proofs.Common.{refl}
 use Rattle.ex_base.proofs.Results.{if_err_handed}
 use Rattle.disk_model.specs.Runs.{disk_refl}
 use Rattle.packing.proofs.Handed.{no_value}
+use Rattle.packing.proofs.FaultsTold.{lacks_weaker}
 use Rattle.packing.proofs.Moments.{holds_now, keeps_now}
 use Rattle.packing.proofs.Outcomes.{few_free, lacks_never, lacks_none, packed_already, packed_now, segs_are, stopped, told_lacks}
 use Rattle.packing.proofs.volume.pack.Goals as goal
@@ -24,6 +25,9 @@ returns-then-moved-eq0-clause-packed g c = λ d image rests.
 pub returns-then-moved-eq0-clause-lacks : goal.returns-then-moved-eq0-clause-lacks
 returns-then-moved-eq0-clause-lacks g c = λ need free is. absurd (cc)
 
+pub returns-then-moved-eq0-clause-before : goal.returns-then-moved-eq0-clause-before
+returns-then-moved-eq0-clause-before g c = λ need free is. absurd (cc)
+
 pub returns-then-moved-eq0-clause-lacking : goal.returns-then-moved-eq0-clause-lacking
 returns-then-moved-eq0-clause-lacking g c = λ d image need free rests lacks.
     lacks_none c.args.volume.now c.free_among-moved.result _ (segs_are c.args.volume.now c.free.result _ c.requires.ready.ready.fits.counted c.free.ensures refl) c.free_among-moved.ensures (g.D.World.outside c.args.disk.now) d image rests c.if-moved-eq0.true need free lacks
@@ -41,11 +45,14 @@ move_high-requires-clause-segs g c = segs_are c.args.volume.now c.free.result _ 
 
 pub returns-in_err-move_high-clause-lacks : goal.returns-in_err-move_high-clause-lacks
 returns-in_err-move_high-clause-lacks g c = λ need free is d image rests.
-    told_lacks c.from_residual.result c.in_err-move_high.field-0.0 _ c.from_residual.ensures.1 c.in_err-move_high.ensures.lacks need free is d image rests
+    let stops = told_lacks c.from_residual.result c.in_err-move_high.field-0.0 _ c.from_residual.ensures.1 c.in_err-move_high.ensures.lacks need free is d image rests in stops.lacks
+
+pub returns-in_err-move_high-clause-before : goal.returns-in_err-move_high-clause-before
+returns-in_err-move_high-clause-before g c = told_lacks c.from_residual.result c.in_err-move_high.field-0.0 _ c.from_residual.ensures.1 c.in_err-move_high.ensures.lacks
 
 pub returns-in_err-move_high-clause-lacking : goal.returns-in_err-move_high-clause-lacking
 returns-in_err-move_high-clause-lacking g c = λ d image need free rests lacks.
-    stopped c.from_residual.result c.in_err-move_high.field-0.0 c.args.volume.now (g.D.World.outside c.args.disk.now) d image rests c.from_residual.ensures.1 c.in_err-move_high.ensures.lacks
+    stopped c.from_residual.result c.in_err-move_high.field-0.0 c.args.volume.now (g.D.World.outside c.args.disk.now) d image rests c.from_residual.ensures.1 (lacks_weaker c.in_err-move_high.field-0.0 _ _ (λ need free stops d image rests. (let there = stops d image rests in there.lacks)) c.in_err-move_high.ensures.lacks)
     (λ damage. c.in_err-move_high.ensures.sound damage d image rests) need free lacks
 
 pub returns-in_err-move_high-clause-any_moment : goal.returns-in_err-move_high-clause-any_moment
@@ -67,6 +74,9 @@ returns-clause-packed g c = λ d image rests.
 
 pub returns-clause-lacks : goal.returns-clause-lacks
 returns-clause-lacks g c = λ need free is. absurd (cc)
+
+pub returns-clause-before : goal.returns-clause-before
+returns-clause-before g c = λ need free is. absurd (cc)
 
 pub returns-clause-lacking : goal.returns-clause-lacking
 returns-clause-lacking g c = λ d image need free rests lacks.

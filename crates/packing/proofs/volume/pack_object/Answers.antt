@@ -50,11 +50,11 @@ pub returns-then-free-need-clause-only : goal.returns-then-free-need-clause-only
 returns-then-free-need-clause-only g c = let reads = c.pages_needed.ensures.keeps.only in reads.nothing.only
 
 pub returns-then-free-need-clause-lacks : goal.returns-then-free-need-clause-lacks
-returns-then-free-need-clause-lacks g c = λ d image object rests are. (
+returns-then-free-need-clause-lacks g c = (c.pages_needed.ensures.keeps, λ d image object rests are. (
   c.from-free.ensures,
   c.in_ok-need.ensures.need d image rests (roots_inside d.volume object c.args.versions.now are) ∙ same_need d image c.args.start.now.segs object c.args.versions.now are,
   c.if-free-need.true,
-)
+))
 
 pub returns-then-free-need-clause-keeps : goal.returns-then-free-need-clause-keeps
 returns-then-free-need-clause-keeps g c = λ d image later object p are.
