@@ -11,16 +11,14 @@ The largest object has 1 GiB, and with `--quick` 64 MiB.
 """
 from __future__ import annotations
 
-import argparse
 import os
 import shutil
 import subprocess
 import sys
-import tempfile
 import time
 from typing import Iterator
 
-from streams import MIB, PIECE, RUNS, Ran, Streams, kept, least, ran
+from streams import MIB, PIECE, RUNS, Ran, Streams, kept, least, ran, time_programs
 from timing.tables import table
 
 LEAF = 4096
@@ -107,18 +105,10 @@ def tell(packs: Packs, sizes: tuple[int, ...]) -> None:
     print(table(["Packed", "Processor", "A copy", "To that", "Memory", ""], rows))
 
 
-def main() -> None:
-    """Times all of it, program by program."""
-    parser = argparse.ArgumentParser(
-        description=__doc__, formatter_class=argparse.RawDescriptionHelpFormatter)
-    parser.add_argument("programs", metavar="PROGRAM", nargs="+")
-    parser.add_argument("--folder", default="/dev/shm")
-    parser.add_argument("--quick", action="store_true")
-    words = parser.parse_args()
-    for program in words.programs:
-        with tempfile.TemporaryDirectory(dir=words.folder) as folder:
-            tell(Packs(program, folder), QUICK_SIZES if words.quick else SIZES)
+def measure_packs(program: str, folder: str, quick: bool) -> None:
+    """Times the packs of a program."""
+    tell(Packs(program, folder), QUICK_SIZES if quick else SIZES)
 
 
 if __name__ == "__main__":
-    main()
+    time_programs(__doc__, measure_packs)

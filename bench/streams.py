@@ -19,7 +19,7 @@ import resource
 import subprocess
 import sys
 import tempfile
-from typing import Iterator, NamedTuple, Optional
+from typing import Callable, Iterator, NamedTuple, Optional
 
 from timing.tables import table
 
@@ -172,19 +172,24 @@ def tell(streams: Streams, sizes: tuple[int, ...], small: int) -> None:
           sep="\n\n")
 
 
-def main() -> None:
-    """Times all of it, program by program."""
+def time_programs(about: Optional[str], measure: Callable[[str, str, bool], None]) -> None:
+    """Measures each program that the words name in a folder of its own, or at small sizes."""
     parser = argparse.ArgumentParser(
-        description=__doc__, formatter_class=argparse.RawDescriptionHelpFormatter)
+        description=about, formatter_class=argparse.RawDescriptionHelpFormatter)
     parser.add_argument("programs", metavar="PROGRAM", nargs="+")
     parser.add_argument("--folder", default="/dev/shm")
     parser.add_argument("--quick", action="store_true")
     words = parser.parse_args()
     for program in words.programs:
         with tempfile.TemporaryDirectory(dir=words.folder) as folder:
-            tell(Streams(program, folder), QUICK_SIZES if words.quick else SIZES,
-                 QUICK_SMALL if words.quick else SMALL)
+            measure(program, folder, words.quick)
+
+
+def measure_streams(program: str, folder: str, quick: bool) -> None:
+    """Times the dumps and loads of a program."""
+    tell(Streams(program, folder), QUICK_SIZES if quick else SIZES,
+         QUICK_SMALL if quick else SMALL)
 
 
 if __name__ == "__main__":
-    main()
+    time_programs(__doc__, measure_streams)
