@@ -1,5 +1,5 @@
 -- What a port over a session that shows finds of a version.
-use Rattle.std.proofs.Common.{◌≡◌, ◌∙◌, ℕ, List, length, All, Option, Some, None, Result, Ok, Err, refl, sym, ap, subst, inl, inr}
+use Rattle.std.proofs.Common.{◌≡◌, ◌∙◌, ℕ, List, length, All, Option, Some, None, Result, Ok, Err, refl, sym, ap, subst, inl, inr, ◌<◌, ◌≤◌, arith}
 use Rattle.std.specs.Prelude.{◌↔◌, slice_index_or, IsSome, IfOk, IfErr, IfSome, OnOk}
 use Rattle.std.specs.Borrow.{MutBor}
 use Rattle.ex_base.specs.declared.ground.Ground as ground
@@ -59,6 +59,9 @@ use Rattle.session_core.specs.Steps.{OnlyFrames}
 use Rattle.session_core.proofs.Bridge.{shows_volume, table_is, image_shown}
 use Rattle.session_core.proofs.Reading.{frames_session}
 use Rattle.volume_model.proofs.Showing.{session_geometry}
+use Rattle.ex_base.specs.declared.names.Root.{Root}
+use Rattle.ex_base.specs.Sizes.{object_most}
+use Rattle.trees.specs.Roots.{IsRootFor}
 use Rattle.volume_port.proofs.Frames.{frames_lent}
 
 -- ---- what a reading leaves
@@ -217,6 +220,17 @@ module _ {S : Type 0} (g : ground.Ghosts S) (s : S) {v : View SessionState} (sho
       let inside_volume = into_volume working at.e at.f own.0 at.beside own.1 in
       let spells = content_spells g s records working volume own.0.body.content (roots_here g s records working volume own.0 inside_volume) in
       record { is = own.0.body; spelled = own.2.1; limits = limits_of own.0.body.content (content_in (units_in g s) own.0.body.content) spells }
+
+-- what was found has no more bytes than an object may have
+pub few_bytes : {E : Type 0} (g : Geometry) (result : Result (Option Found) E) → IfOk result (λ found. IfSome found (λ f. f.root ≡ None → f.size < 65536)) → IfOk result (λ found. IfSome found (λ f. IfSome f.root (IsRootFor g)))
+    → IfOk result (λ found. IfSome found (λ f. IfSome f.root (λ root. f.size ≡ root.size))) → IfOk result (λ found. IfSome found (λ f. f.size ≤ object_most))
+few_bytes g (Err e) small limits large = tt
+few_bytes g (Ok None) small limits large = tt
+few_bytes g (Ok (Some f)) small limits large = by f.root refl limits large
+  where
+    by : (o : Option Root) → f.root ≡ o → IfSome o (IsRootFor g) → IfSome o (λ root. f.size ≡ root.size) → f.size ≤ object_most
+    by None is limits large = (let few = small is in omega (arith, few))
+    by (Some root) is limits large = (let few = limits.small in omega (arith, few, large))
 
 -- ---- over the session that a step begins with
 

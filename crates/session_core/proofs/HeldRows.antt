@@ -1,5 +1,5 @@
 -- What holds of every session holds where its scans are others and where it has a group more.
-use Rattle.std.proofs.Common.{◌≡◌, ℕ, ◌+◌, ◌<◌, ◌≤◌, List, [], ◌∷◌, ◌++◌, length, All, Some, Result, Ok, Err, refl, sym, subst, arith, length-append}
+use Rattle.std.proofs.Common.{◌≡◌, ℕ, ◌+◌, ◌<◌, ◌≤◌, List, [], ◌∷◌, ◌++◌, length, All, Some, Result, Ok, Err, refl, sym, subst, arith, length-append, ◌^◌}
 use Rattle.std.specs.Prelude.{IfSome, OnErr, OnOk, slice_get, slice_set}
 use Rattle.std.proofs.lemmas.List.{length-set}
 use Rattle.std.proofs.lemmas.List.Elements.{All-get_or, All-nil, All-push, All-set, All-weaker}
@@ -129,6 +129,10 @@ grouped_session s row few is =
       up = is.up;
       idle = is.idle;
     }
+
+-- the groups can be counted
+pub room_more : (s now : SessionState) → s ≡ now → IsSession s → length now.group_rows < groups_most → length s.groups + 1 < 2 ^ 32
+room_more s now seen is few = (let here = subst (λ (t : SessionState). length t.group_rows < groups_most) (sym seen) few in omega (arith, here, groups_count s.group_rows s.groups is.groups))
 
 -- where memory was wanted, nothing changed
 pub grouped_or : {T E : Type 0} (s : SessionState) (row : GroupRow) (rows : List GroupRow) (groups : List Frames) (result : Result T E) → length s.group_rows < groups_most → IsSession s

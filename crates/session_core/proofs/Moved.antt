@@ -182,6 +182,10 @@ pub on_err : {P : Type 0} (result : Result Oid Stop) → P → OnErr result P
 on_err (Ok oid) p = tt
 on_err (Err stop) p = p
 
+-- where the session stops, no version is answered
+pub none_answered : (P : Oid → Type 0) (result : Result Oid Stop) (why : Stop) → result ≡ Err why → IfOk result P
+none_answered P result why is = subst (λ (r : Result Oid Stop). IfOk r P) (sym is) tt
+
 -- what is said of an update that was performed holds of one
 pub when_done : {P : Type 0} (done : Result Done PortFault) → is_ok done ≡ true → OnOk done P → P
 when_done (Ok done) ok p = p

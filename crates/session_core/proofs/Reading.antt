@@ -1,5 +1,5 @@
 -- A page is read through a group of frames.
-use Rattle.std.proofs.Common.{◌≡◌, ◌∙◌, ℕ, ◌<◌, ◌≤◌, true, false, cond, not, List, length, All, Option, Some, None, is_some, nat_eq, slice_set, Result, Ok, Err, sym, ap, subst}
+use Rattle.std.proofs.Common.{◌≡◌, ◌∙◌, ℕ, ◌<◌, ◌≤◌, true, false, cond, not, List, length, All, Option, Some, None, is_some, nat_eq, slice_set, Result, Ok, Err, sym, ap, subst, arith}
 use Rattle.std.specs.Prelude.{MatchOption, MatchResult, IfOk, slice_get}
 use Rattle.std.specs.Map.{lookup}
 use Rattle.std.proofs.lemmas.List.Elements.{All-cons, All-filter, All-set}
@@ -15,6 +15,10 @@ use Rattle.open_scans.specs.GroupRows.{AreGroupsOf}
 use Rattle.session_core.specs.Sessions.{SessionState, IsSession}
 use Rattle.session_core.specs.Catalogs.{FramesLend, catalog_over, catalog_bytes}
 use Rattle.session_core.specs.Steps.{OnlyFrames}
+
+-- the catalog lies behind the log
+pub at_catalog : catalog_no ≤ catalog_no
+at_catalog = omega arith
 
 all_others : (P : ℕ × List ℕ → Type 0) (f : Frames) (page : ℕ) → All P f.entries → All P (others f page)
 all_others P f page all = elim (is_some (lookup (nat_eq page) f.entries)) as (λ b. All P (cond b (without page f.entries) (with_room f.policy f.cap f.entries))) [

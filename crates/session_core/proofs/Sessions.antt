@@ -7,6 +7,8 @@ use Rattle.object_files.specs.Catalog.{Catalog}
 use Rattle.ex_base.specs.declared.names.OpNote.{OpNote}
 use Rattle.ex_base.specs.declared.names.Root.{Root}
 use Rattle.ex_base.specs.Area.{catalog_no}
+use Rattle.ex_base.specs.Sizes.{volume_bytes}
+use Rattle.volume_port.specs.Reading.{CanRead}
 use Rattle.op_log.specs.Records.{IsNote}
 use Rattle.op_log.proofs.Reading.{each-push}
 use Rattle.meta_pages.specs.Overlays.{Overlays}
@@ -41,6 +43,11 @@ use Rattle.volume_port.proofs.Working.{lookup_put, length_put, firsts_put}
 -- `main` is among the groups
 pub main_there : (rows : List GroupRow) (groups : List Frames) → AreGroupsOf rows groups → 0 < length groups
 main_there rows groups are = (let many : length groups ≡ length (main_kind ∷ map kind_of_row rows) = sym (length-map groups kind_of) ∙ ap (λ (kinds : List (ℕ × Policy)). length kinds) are in omega (arith, many))
+
+-- a port for reading may be made over a session, with `main`
+pub main_read : (s now : SessionState) (size : ℕ) → s ≡ now → IsSession s → volume_bytes now.geometry ≤ size → CanRead s.geometry size s.groups 0 s.meta
+main_read s now size seen is large =
+    record { group = main_there s.group_rows s.groups is.groups; disk = subst (λ (t : SessionState). volume_bytes t.geometry ≤ size) (sym seen) large; frames = is.sizes; behind = is.behind; overlay = is.meta }
 
 -- with other working pages and notes
 abbrev pub working_on : SessionState → Overlays → List OpNote → Bool → Bool → SessionState
@@ -262,3 +269,38 @@ after_abort s meta pages units notes gained lost names is same back none no_gain
       up = λ _. refl;
       idle = λ _ _. (refl, no_gained, no_lost);
     }))
+
+-- what a checkpoint leaves of the log, the overlay and the frames
+pub record LeftByCheckpoint (s : SessionState) (log : LogState) (meta : Overlays) (groups : List Frames) : Type 0 where
+  pub log_is : log.geometry ≡ s.log.geometry
+  pub meta_is : meta.geometry ≡ s.meta.geometry
+  pub working : meta.working ≡ s.meta.working
+  pub sizes : All (λ (f : Frames). f.page_size ≡ s.meta.geometry.page_size) groups
+  pub kinds : SameKinds s.groups groups
+  pub logged : IsLogged s.log s.meta → IsLogged log meta
+  pub behind : AreBehindLog s.groups → AreBehindLog groups
+
+pub after_checkpoint : (s : SessionState) (log : LogState) (meta : Overlays) (groups : List Frames) → IsSession s → LeftByCheckpoint s log meta groups → IsSession (record s { log = log; meta = meta; groups = groups })
+after_checkpoint s log meta groups is left = record {
+  log = left.log_is ∙ is.log;
+  meta = left.meta_is ∙ is.meta;
+  units = is.units;
+  pages = subst (λ (rows : List WorkingRow). IsTracked s.geometry rows s.pages s.kept) (sym left.working) is.pages;
+  in_use = is.in_use;
+  sizes = subst (λ (g : Geometry). All (λ (f : Frames). f.page_size ≡ g.page_size) groups) is.meta left.sizes;
+  groups = left.kinds ∙ is.groups;
+  few_groups = is.few_groups;
+  scans = is.scans;
+  few_scans = is.few_scans;
+  logged = left.logged is.logged;
+  behind = left.behind is.behind;
+  few_notes = is.few_notes;
+  notes = is.notes;
+  few_gained = is.few_gained;
+  few_lost = is.few_lost;
+  few_pages = subst (λ (rows : List WorkingRow). length rows ≤ touched_most) (sym left.working) is.few_pages;
+  in_order = subst IsRising (sym left.working) is.in_order;
+  work = λ opened. let has = is.work opened in record { image = has.image; there = subst (λ (rows : List WorkingRow). lookup (nat_eq catalog_no) rows ≡ Some (Some has.image)) (sym left.working) has.there };
+  up = is.up;
+  idle = λ closed up. let none = is.idle closed up in (left.working ∙ none.0, none.1, none.2);
+}

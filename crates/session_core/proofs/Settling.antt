@@ -13,6 +13,8 @@ use Rattle.volume_port.specs.Logged.{LoggedSet, is_held}
 use Rattle.volume_port.proofs.FirstRows.{next_here, next_keeps, next_other, none_below}
 use Rattle.volume_port.proofs.Frames.{each_of_all}
 use Rattle.session_core.specs.Sessions.{OnlyGives, Settled, TakenBack, WasTaken, is_there, is_kept}
+use Rattle.ex_base.specs.Area.{InPageArea}
+use Rattle.meta_pages.specs.Overlays.{AreRows, IsWorkingRow, Overlays}
 use Rattle.ex_base.proofs.Options.{none_from_test}
 
 -- ---- units
@@ -138,3 +140,7 @@ at_row P rows i row all is = each_row rows i (each_of_all P rows all) is
     each_row [] j each e = absurd (cc)
     each_row (r ∷ rs) zero each e = (let same : r ≡ row = cc (e) in subst P same each.0)
     each_row (r ∷ rs) (suc j) each e = each_row rs j each.1 e
+
+-- the page of a row lies in the page area
+pub row_area : (meta : Overlays) → AreRows meta → (i page : ℕ) (image : Option (List ℕ)) → slice_get meta.working i ≡ Some (page, image) → InPageArea meta.geometry page
+row_area meta rows i page image at = (at_row (IsWorkingRow meta.geometry) meta.working i (page, image) rows.working_pages at).0

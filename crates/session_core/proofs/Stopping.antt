@@ -1,8 +1,10 @@
 -- Why a step on the catalog stops, and quiet steps as steps.
-use Rattle.std.proofs.Common.{◌≡◌, ◌≢◌, ◌⊎◌, ℕ, Result, refl, sym, ap, subst, inl, inr, arith}
+use Rattle.std.proofs.Common.{◌≡◌, ◌≢◌, ◌⊎◌, ℕ, Result, refl, sym, ap, subst, inl, inr, arith, ◌∙◌, Ok, Err}
 use Rattle.std.proofs.lemmas.Result.{IfErr-weaker}
 use Rattle.disk_model.specs.Outside.{Outside, IsWorld}
 use Rattle.table_model.specs.declared.reply.Reply.{Reply}
+use Rattle.table_model.specs.declared.reply.Refusal.{Refusal}
+use Rattle.table_model.specs.declared.reply.Reply.TheVariants as reply
 use Rattle.table_model.specs.Requests.{Request}
 use Rattle.ex_base.specs.declared.faults.Seen.{Seen}
 use Rattle.ex_base.specs.declared.names.PageNo.{PageNo}
@@ -73,3 +75,14 @@ quietly {a} {b} {old} r result world session quiet = record {
   stepped = quiet.stepped;
   any_moment = λ before same now. quiet_moments r world quiet.reads before now;
 }
+
+-- ---- results that differ
+
+pub no_error : {T E P : Type 0} (result : Result T E) (x : T) (e : E) → result ≡ Ok x → result ≡ Err e → P
+no_error result x e given same = absurd (let both : Ok x ≡ Err e = sym given ∙ same in cc)
+
+pub disk_alone : {T : Type 0} (result : Result T Stop) → result ≡ Err stop.Disk → result ≡ Err stop.Memory → ⊥
+disk_alone result disk memory = (let both : Err stop.Disk ≡ Err stop.Memory = sym disk ∙ memory in cc)
+
+pub refused_apart : (result : Result Reply Stop) (why : Refusal) → result ≡ Ok (reply.No why) → result ≡ Ok reply.Checkpoint → ⊥
+refused_apart result why refused done = (let both : Ok (reply.No why) ≡ Ok reply.Checkpoint = sym refused ∙ done in cc)

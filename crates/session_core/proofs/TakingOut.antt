@@ -1,5 +1,5 @@
 -- A root is taken out of a list by its page.
-use Rattle.std.proofs.Common.{◌≡◌, ℕ, ◌+◌, ◌<◌, List, [], ◌∷◌, length, take, get_or, Bool, Option, Some, refl, sym, ap, subst, inl, arith}
+use Rattle.std.proofs.Common.{◌≡◌, ℕ, ◌+◌, ◌<◌, List, [], ◌∷◌, length, take, get_or, Bool, Option, Some, refl, sym, ap, subst, inl, arith, ◌≤◌}
 use Rattle.std.specs.Prelude.{Contains, Result, Ok, Err, IfErr, OnOk}
 use Rattle.std.specs.List.{remove}
 use Rattle.std.proofs.lemmas.List.{get_or_default, take_more}
@@ -44,6 +44,10 @@ taken_out_at roots i root d inside same =
       others = λ r has. each_of (Contains roots) (remove roots i) r (each_removed (Contains roots) roots i (each_from (Contains roots) roots (λ x there. there))) has;
       fewer = omega (arith, length-remove roots i inside);
     }
+
+-- as many are left where none is taken out
+pub as_few : (old new : List Root) → new ≡ old → length new ≤ length old
+as_few old new same = omega (arith, ap (λ (l : List Root). length l) same)
 
 -- ---- the root that goes
 

@@ -12,11 +12,13 @@ use Rattle.session_core.specs.contracts.session.Session as session
 use Rattle.session_core.proofs.Aborting.{abort_done, abort_left, abort_stopped, aborted_as, none_freed}
 use Rattle.session_core.proofs.Accepted.{no_open_txn}
 use Rattle.session_core.proofs.Refusing.{closed_refused}
-use Rattle.session_core.proofs.Releasing.{GaveUp, gave_up, given_session}
+use Rattle.session_core.proofs.Releasing.{GaveUp, gave_up, given_session, fits_session}
 use Rattle.session_core.proofs.Sessions.{after_abort, seen}
 use Rattle.session_core.proofs.Stopping.{quietly}
 use Rattle.session_core.specs.Damage.{TellsDamage, no_version, of_gained}
 use Rattle.session_core.proofs.Damage.{giving_told}
+use Rattle.ex_base.specs.Area.{area_end}
+use Rattle.std.proofs.lemmas.Bool.{both_ways}
 use Rattle.session_core.proofs.session.Session.abort.Goals as goal
 
 pub returns-then-not-is_open-clause-steps : goal.returns-then-not-is_open-clause-steps
@@ -93,3 +95,33 @@ returns-in-Err-clause-damage g c =
     subst (λ (t : SessionState). TellsDamage a b t no_version c.stopped.result) c.self.view_is
     (giving_told a b s s.gained c.in-Err.fault c.stopped.result c.stopped.ensures c.release_roots.ensures.gives.only.nothing.disk (λ root has. of_gained has)
     (subst (λ (roots : List Root). IsGivingFault s.geometry a s.groups roots c.in-Err.fault) c.deref.ensures.value c.in-Err.ensures.fault))
+
+pub release_roots-requires-clause-ready : goal.release_roots-requires-clause-ready
+release_roots-requires-clause-ready g c =
+    let s = session.the_view c.self.inside in
+    let size = (g.H.World.outside c.args.host.now).size in
+    fits_session s size c.self.invariant (subst (λ (t : SessionState). volume_bytes t.geometry ≤ size) (sym c.self.view_is) c.requires.room)
+
+pub release_roots-requires-clause-held : goal.release_roots-requires-clause-held
+release_roots-requires-clause-held g c = c.self.invariant.pages.held_len
+
+pub release_roots-requires-clause-flags : goal.release_roots-requires-clause-flags
+release_roots-requires-clause-flags g c = c.self.invariant.pages.kept_len
+
+pub take_back-requires-clause-geometry : goal.take_back-requires-clause-geometry
+take_back-requires-clause-geometry g c =
+    let s = session.the_view c.self.inside in
+    let a = g.H.World.outside c.args.host.now in
+    let room = subst (λ (t : SessionState). volume_bytes t.geometry ≤ a.size) (sym c.self.view_is) c.requires.room in
+    let is_given = given_session s c.release_roots.new.units c.release_roots.new.groups c.self.invariant room c.release_roots.ensures.gives in
+    is_given.units.geometry ∙ sym c.self.invariant.meta
+
+pub take_back-requires-clause-held : goal.take_back-requires-clause-held
+take_back-requires-clause-held g c = c.self.invariant.pages.held_len ∙ ap area_end (sym c.self.invariant.meta)
+
+pub take_back-requires-clause-flags : goal.take_back-requires-clause-flags
+take_back-requires-clause-flags g c = c.self.invariant.pages.kept_len ∙ ap area_end (sym c.self.invariant.meta)
+
+pub returns-then-not-is_open-clause-exact : goal.returns-then-not-is_open-clause-exact
+returns-then-not-is_open-clause-exact g c before from now opened =
+    (let closed = ap (λ (t : SessionState). t.opened) (sym c.self.view_is) ∙ sym c.is_open.ensures ∙ c.if-not-is_open.true in absurd (both_ways _ closed opened))

@@ -8,7 +8,7 @@ use Rattle.ex_base.specs.declared.names.Root.{Root}
 use Rattle.ex_base.specs.Sizes.{volume_bytes}
 use Rattle.ex_base.proofs.Results.{if_no_error}
 use Rattle.disk_model.specs.Outside.{Outside, ReadsOnly}
-use Rattle.disk_model.specs.Runs.{reads_trans}
+use Rattle.disk_model.specs.Runs.{reads_refl, reads_trans}
 use Rattle.buffer_groups.specs.Frames.{Frames}
 use Rattle.op_log.specs.Records.{IsNote}
 use Rattle.meta_pages.specs.Overlays.{Overlays}
@@ -26,13 +26,17 @@ use Rattle.session_core.proofs.Committing.{Commits, numbered_pages}
 use Rattle.session_core.proofs.CommitSteps.{GaveLost}
 use Rattle.session_core.proofs.Quiet.{quiet_stop}
 use Rattle.session_core.proofs.Refusing.{closed_refused}
-use Rattle.session_core.proofs.Releasing.{gave_up, given_session, room_read}
+use Rattle.session_core.proofs.Releasing.{gave_up, given_session, room_read, fits_session}
 use Rattle.session_core.proofs.Sessions.{after_commit, if_error, ready, seen}
-use Rattle.session_core.proofs.Stopping.{kinds_differ, quietly}
+use Rattle.session_core.proofs.Stopping.{kinds_differ, quietly, no_error}
 use Rattle.session_core.proofs.Tracking.{gone_put}
 use Rattle.session_core.proofs.Writing.{WasKept, WasMade, closed_as, commit_done, commit_left, commit_logged, commit_stopped, commits_at, frames_at, gave_at, lost_stopped, memory_fault, moments_at, own_at, settled_at}
 use Rattle.session_core.specs.Damage.{TellsDamage, no_version, of_lost}
 use Rattle.session_core.proofs.Damage.{catalog_told, giving_told, later_damage, spent_told, uncommitted_told}
+use Rattle.session_core.proofs.WritingHome.{home_unwritten, home_written}
+use Rattle.ex_base.specs.Area.{area_end}
+use Rattle.table_model.specs.declared.reply.Reply.TheVariants as reply
+use Rattle.table_model.specs.declared.reply.Refusal.TheVariants as refusal
 use Rattle.session_core.proofs.session.Session.commit.Goals as goal
 
 pub returns-then-not-is_open-clause-steps : goal.returns-then-not-is_open-clause-steps
@@ -427,3 +431,114 @@ returns-in-Err-release_roots-clause-damage g c =
 
 pub returns-in-Err-commit-clause-damage : goal.returns-in-Err-commit-clause-damage
 returns-in-Err-commit-clause-damage g c = uncommitted_told (g.H.World.outside c.args.host.now) _ c.args.self.now no_version c.in-Err-commit.fault c.uncommitted.result c.uncommitted.ensures
+
+-- ---- where it writes
+
+pub returns-then-not-is_open-clause-writes : goal.returns-then-not-is_open-clause-writes
+returns-then-not-is_open-clause-writes g c = home_unwritten c.args.self.now (reads_refl (g.H.World.outside c.args.host.now))
+
+pub returns-in-Err-clause-writes : goal.returns-in-Err-clause-writes
+returns-in-Err-clause-writes g c = home_unwritten c.args.self.now c.catalog.ensures.frames.reads
+
+pub returns-in_default-clause-writes : goal.returns-in_default-clause-writes
+returns-in_default-clause-writes g c = home_unwritten c.args.self.now c.catalog.ensures.frames.reads
+
+pub returns-in-Err-release_roots-clause-writes : goal.returns-in-Err-release_roots-clause-writes
+returns-in-Err-release_roots-clause-writes g c = home_unwritten c.args.self.now (reads_trans c.catalog.ensures.frames.reads c.release_roots.ensures.gives.only)
+
+pub returns-then-is_err-clause-writes : goal.returns-then-is_err-clause-writes
+returns-then-is_err-clause-writes g c = home_unwritten c.args.self.now (reads_trans c.catalog.ensures.frames.reads c.release_roots.ensures.gives.only)
+
+pub returns-in-Err-commit-clause-writes : goal.returns-in-Err-commit-clause-writes
+returns-in-Err-commit-clause-writes g c =
+    let s = c.args.self.now in
+    let two = session.the_view c.self-2.inside in
+    let only = c.catalog.ensures.frames in
+    let same = c.self-2.view_is ∙ only.same in
+    let written = if_no_error c.edit.result (sym c.if-is_err.ensures.value) c.edit.ensures.ok in
+    let edited = written ∙ ap (λ (l : List ℕ). numbered_pages two.meta l) c.deref-2.ensures.value in
+    home_written s c.edit.new.self (reads_trans only.reads c.release_roots.ensures.gives.only)
+    (ap (λ (o : Overlays). o.geometry) edited ∙ c.self-2.invariant.meta ∙ ap (λ (t : SessionState). t.geometry) same)
+    (ap (λ (o : Overlays). o.committed) edited ∙ ap (λ (t : SessionState). t.meta.committed) same) c.commit.ensures.writes
+
+pub returns-clause-writes : goal.returns-clause-writes
+returns-clause-writes g c =
+    let s = c.args.self.now in
+    let two = session.the_view c.self-2.inside in
+    let only = c.catalog.ensures.frames in
+    let same = c.self-2.view_is ∙ only.same in
+    let written = if_no_error c.edit.result (sym c.if-is_err.ensures.value) c.edit.ensures.ok in
+    let edited = written ∙ ap (λ (l : List ℕ). numbered_pages two.meta l) c.deref-2.ensures.value in
+    home_written s c.edit.new.self (reads_trans only.reads c.release_roots.ensures.gives.only)
+    (ap (λ (o : Overlays). o.geometry) edited ∙ c.self-2.invariant.meta ∙ ap (λ (t : SessionState). t.geometry) same)
+    (ap (λ (o : Overlays). o.committed) edited ∙ ap (λ (t : SessionState). t.meta.committed) same) c.commit.ensures.writes
+
+-- ---- what else is asked and promised
+
+pub release_roots-requires-clause-ready : goal.release_roots-requires-clause-ready
+release_roots-requires-clause-ready g c =
+    let s = c.args.self.now in
+    let i = g.H.World.outside c.catalog.new.disk in
+    let mid = c.catalog.new.self in
+    let two = session.the_view c.self-2.inside in
+    let only = c.catalog.ensures.frames in
+    fits_session two i.size c.self-2.invariant (room_read s mid two only.same c.self-2.view_is only.reads c.requires.room)
+
+pub release_roots-requires-clause-held : goal.release_roots-requires-clause-held
+release_roots-requires-clause-held g c = c.self-2.invariant.pages.held_len
+
+pub release_roots-requires-clause-flags : goal.release_roots-requires-clause-flags
+release_roots-requires-clause-flags g c = c.self-2.invariant.pages.kept_len
+
+pub edit-requires-clause-whole : goal.edit-requires-clause-whole
+edit-requires-clause-whole g c =
+    let only = c.catalog.ensures.frames in
+    let sizes = ap (λ (h : Geometry). h.page_size) (c.self-2.invariant.meta ∙ ap (λ (t : SessionState). t.geometry) (c.self-2.view_is ∙ only.same)) in
+    ap (λ (l : List ℕ). length l) c.deref-2.ensures.value ∙ c.number_next.ensures.len ∙ c.in-Ok.ensures.len ∙ sym sizes
+
+pub settle-requires-clause-geometry : goal.settle-requires-clause-geometry
+settle-requires-clause-geometry g c =
+    let s = c.args.self.now in
+    let mid = c.catalog.new.self in
+    let only = c.catalog.ensures.frames in
+    let two = session.the_view c.self-2.inside in
+    let edited = (if_no_error c.edit.result (sym c.if-is_err.ensures.value) c.edit.ensures.ok ∙ ap (λ (l : List ℕ). numbered_pages two.meta l) c.deref-2.ensures.value) in
+    let same = ap (λ (o : Overlays). o.geometry) edited ∙ c.self-2.invariant.meta in
+    let is_given = given_session two c.release_roots.new.units c.release_roots.new.groups c.self-2.invariant (room_read s mid two only.same c.self-2.view_is only.reads c.requires.room) c.release_roots.ensures.gives in
+    is_given.units.geometry ∙ sym same
+
+pub settle-requires-clause-flags : goal.settle-requires-clause-flags
+settle-requires-clause-flags g c =
+    let two = session.the_view c.self-2.inside in
+    let edited = (if_no_error c.edit.result (sym c.if-is_err.ensures.value) c.edit.ensures.ok ∙ ap (λ (l : List ℕ). numbered_pages two.meta l) c.deref-2.ensures.value) in
+    let same = ap (λ (o : Overlays). o.geometry) edited ∙ c.self-2.invariant.meta in
+    c.self-2.invariant.pages.kept_len ∙ ap area_end (sym same)
+
+pub commit-requires-clause-geometry : goal.commit-requires-clause-geometry
+commit-requires-clause-geometry g c =
+    let two = session.the_view c.self-2.inside in
+    let edited = (if_no_error c.edit.result (sym c.if-is_err.ensures.value) c.edit.ensures.ok ∙ ap (λ (l : List ℕ). numbered_pages two.meta l) c.deref-2.ensures.value) in
+    let same = ap (λ (o : Overlays). o.geometry) edited ∙ c.self-2.invariant.meta in
+    c.self-2.invariant.log ∙ sym same
+
+pub commit-requires-clause-few_notes : goal.commit-requires-clause-few_notes
+commit-requires-clause-few_notes g c = subst (λ (l : List OpNote). length l ≤ updates_most) (sym c.deref-3.ensures.value) c.self-2.invariant.few_notes
+
+pub commit-requires-clause-notes : goal.commit-requires-clause-notes
+commit-requires-clause-notes g c = subst (λ (l : List OpNote). AllByRecursion IsNote l) (sym c.deref-3.ensures.value) c.self-2.invariant.notes
+
+pub returns-then-not-is_open-clause-unwritten : goal.returns-then-not-is_open-clause-unwritten
+returns-then-not-is_open-clause-unwritten g c = λ told. no_error _ (reply.No refusal.NoTxn) stop.Memory refl told
+
+pub returns-then-not-is_open-clause-exact : goal.returns-then-not-is_open-clause-exact
+returns-then-not-is_open-clause-exact g c before from now opened =
+    (let closed = ap (λ (t : SessionState). t.opened) (sym c.self.view_is) ∙ sym c.is_open.ensures ∙ c.if-not-is_open.true in absurd (both_ways _ closed opened))
+
+pub returns-in-Err-clause-unwritten : goal.returns-in-Err-clause-unwritten
+returns-in-Err-clause-unwritten g c _ = (let only = c.catalog.ensures.frames in (only.reads, ap (λ (t : SessionState). t.log) only.same))
+
+pub returns-in_default-clause-unwritten : goal.returns-in_default-clause-unwritten
+returns-in_default-clause-unwritten g c _ = (let only = c.catalog.ensures.frames in (only.reads, ap (λ (t : SessionState). t.log) only.same))
+
+pub returns-clause-unwritten : goal.returns-clause-unwritten
+returns-clause-unwritten g c = λ told. no_error _ (reply.Commit c.in-Some.number) stop.Memory refl told

@@ -1,8 +1,11 @@
-use Rattle.std.proofs.Common.{ap, ◌∙◌, sym}
+use Rattle.std.proofs.Common.{ap, ◌∙◌, sym, inr, refl, subst}
 use Rattle.table_model.specs.Requests.{reference_of}
 use Rattle.session_core.specs.Sessions.{SessionState}
-use Rattle.session_core.proofs.Naming.{missing_here}
-use Rattle.session_core.specs.Finding.{oid_among}
+use Rattle.session_core.proofs.Naming.{missing_here, oid_for}
+use Rattle.session_core.specs.Finding.{oid_among, IsFound}
+use Rattle.session_core.proofs.Sessions.{seen}
+use Rattle.ex_base.proofs.Options.{at_some}
+use Rattle.session_core.proofs.Quiet.{nothing_changed}
 use Rattle.session_core.proofs.session.Session.named.Goals as goal
 
 pub returns-in-Err-clause-named : goal.returns-in-Err-clause-named
@@ -11,3 +14,31 @@ returns-in-Err-clause-named g c = λ before same now.
 
 pub returns-in-Some-clause-asked : goal.returns-in-Some-clause-asked
 returns-in-Some-clause-asked g c = ap (λ (s : SessionState). oid_among s.names (reference_of c.args.x.now)) (sym c.self.view_is) ∙ c.in-Ok.ensures
+
+pub returns-in-Err-clause-session : goal.returns-in-Err-clause-session
+returns-in-Err-clause-session g c = seen c.self.view_is c.self.invariant
+
+pub returns-in-Err-clause-only : goal.returns-in-Err-clause-only
+returns-in-Err-clause-only g c = nothing_changed (g.H.World.outside c.args.host.now) c.args.self.now
+
+pub returns-in-Some-clause-limit : goal.returns-in-Some-clause-limit
+returns-in-Some-clause-limit g c = at_some _ c.in-Some.found _ c.in-Some.is c.in_ok-found.ensures.limit
+
+pub returns-in-Some-clause-root : goal.returns-in-Some-clause-root
+returns-in-Some-clause-root g c = at_some _ c.in-Some.found _ c.in-Some.is c.in_ok-found.ensures.root
+
+pub returns-in-Some-clause-large : goal.returns-in-Some-clause-large
+returns-in-Some-clause-large g c = at_some _ c.in-Some.found _ c.in-Some.is c.in_ok-found.ensures.large
+
+pub returns-in-Some-clause-rooted : goal.returns-in-Some-clause-rooted
+returns-in-Some-clause-rooted g c = at_some _ c.in-Some.found _ c.in-Some.is c.in_ok-found.ensures.rooted
+
+pub returns-in-Some-clause-named : goal.returns-in-Some-clause-named
+returns-in-Some-clause-named g c = λ before same now. record {
+  named_by = oid_for c.self.inside.names (reference_of c.args.x.now) (ap (λ (s : SessionState). s.names) c.self.view_is) same now ∙ c.in-Ok.ensures;
+  told = subst (IsFound before _) c.in-Some.is (c.in_ok-found.ensures.found before same now);
+}
+
+pub returns-in-None-clause-named : goal.returns-in-None-clause-named
+returns-in-None-clause-named g c = λ before same now.
+    inr (refl, (_, oid_for c.self.inside.names (reference_of c.args.x.now) (ap (λ (s : SessionState). s.names) c.self.view_is) same now ∙ c.in-Ok.ensures, subst (IsFound before _) c.in-None.is (c.in_ok-found.ensures.found before same now)))

@@ -6,10 +6,12 @@ use Rattle.session_core.specs.Sessions.{SessionState}
 use Rattle.session_core.proofs.HeldRows.{can_read_on, read_on_session, read_open, root_read}
 use Rattle.session_core.proofs.ScanBytes.{given_shown, port_scans, sound_shown}
 use Rattle.session_core.specs.contracts.session.Session as session
-use Rattle.session_core.proofs.Finding.{error_shown, frames_left, frames_to, no_damage, ok_shown, only_reads, over_session, told_err, told_ok}
-use Rattle.std.specs.Prelude.{slice_get}
+use Rattle.session_core.proofs.Finding.{error_shown, frames_left, frames_to, no_damage, ok_shown, only_reads, over_session, told_err, told_ok, told_on_ok}
+use Rattle.std.specs.Prelude.{slice_get, OnOk, OnErr, slice_set}
 use Rattle.open_scans.proofs.Rows.{row_there}
 use Rattle.session_core.proofs.Damage.{scan_told}
+use Rattle.session_core.proofs.Sessions.{seen}
+use Rattle.open_scans.specs.OpenScans.{AtRow, row_after}
 use Rattle.session_core.proofs.session.Session.next_piece.Goals as goal
 
 pub next-requires-clause-ready : goal.next-requires-clause-ready
@@ -28,7 +30,7 @@ invariant_of-self g c =
 pub returns-clause-only : goal.returns-clause-only
 returns-clause-only g c =
     only_reads (with_scans (session.the_view c.self.inside) c.next.new.self) (with_scans c.args.self.now c.next.new.self) _ (ap (λ (t : SessionState). with_scans t c.next.new.self) c.self.view_is)
-    (frames_to g.D.World.outside c.next.new.blocks.disk.now _ (search rules) (frames_left c.next.ensures.kept.leads))
+    (frames_to g.D.World.outside c.next.new.blocks.disk.now _ (search rules fits 200) (frames_left c.next.ensures.kept.leads))
 
 pub returns-clause-bytes : goal.returns-clause-bytes
 returns-clause-bytes g c =
@@ -51,6 +53,25 @@ returns-clause-damage g c =
     let over = over_session c.next.ensures.kept w c.self.view_is c.self.invariant refl refl refl refl (λ h. h) in
     let row = row_there c.args.self.now.scans c.args.index c.requires.there in
     let here : slice_get c.self.inside.scans c.args.index ≡ Some row.row = ap (λ (t : SessionState). slice_get t.scans c.args.index) c.self.view_is ∙ row.at in
-    let left = frames_to g.D.World.outside c.next.new.blocks.disk.now _ (search rules) (frames_left c.next.ensures.kept.leads) in
+    let left = frames_to g.D.World.outside c.next.new.blocks.disk.now _ (search rules fits 200) (frames_left c.next.ensures.kept.leads) in
     scan_told _ _ _ c.args.index c.next.result c.or_stop.result c.or_stop.ensures over left.only.nothing.disk row.row row.at
     (IfErr-weaker c.next.result _ _ (λ fault is told. is told row.row here) c.next.ensures.fault) (λ none. (c.next.ensures.held row.row here none).1)
+
+pub group_at-group-requires : goal.group_at-group-requires
+group_at-group-requires g c = subst (λ (t : SessionState). c.args.index < length t.scans) (sym c.self.view_is) c.requires.there
+
+pub next-requires-clause-there : goal.next-requires-clause-there
+next-requires-clause-there g c = subst (λ (t : SessionState). c.args.index < length t.scans) (sym c.self.view_is) c.requires.there
+
+pub returns-clause-session : goal.returns-clause-session
+returns-clause-session g c = seen c.self.view_is c.self.invariant
+
+pub returns-clause-moved : goal.returns-clause-moved
+returns-clause-moved g c =
+    told_on_ok c.next.result c.or_stop.result c.or_stop.ensures _
+    (subst (λ (t : SessionState). OnOk c.next.result (AtRow t.scans c.args.index (λ row. c.next.new.self ≡ slice_set t.scans c.args.index (row_after c.args.len row)))) c.self.view_is c.next.ensures.moved)
+
+pub returns-clause-stays : goal.returns-clause-stays
+returns-clause-stays g c =
+    told_err c.next.result c.or_stop.result c.or_stop.ensures (λ _. c.next.new.self ≡ c.args.self.now.scans)
+    (subst (λ (t : SessionState). OnErr c.next.result (c.next.new.self ≡ t.scans)) c.self.view_is c.next.ensures.stays)

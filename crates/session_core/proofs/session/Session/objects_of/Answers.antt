@@ -6,6 +6,7 @@ use Rattle.session_core.proofs.Finding.{frames_left, frames_to, no_damage, only_
 use Rattle.session_core.proofs.Damage.{damage_told}
 use Rattle.session_core.specs.Damage.{no_version}
 use Rattle.volume_edits.specs.Damage.{as_it_is, of_walk}
+use Rattle.session_core.proofs.Sessions.{main_read, seen}
 use Rattle.session_core.proofs.session.Session.objects_of.Goals as goal
 
 pub invariant_of-self : goal.invariant_of-self
@@ -13,7 +14,7 @@ invariant_of-self g c = read_session (session.the_view c.self.inside) _ (frames_
 
 pub returns-clause-only : goal.returns-clause-only
 returns-clause-only g c =
-    only_reads (session.the_view c.self.inside) c.args.self.now _ c.self.view_is (frames_to g.D.World.outside c.objects.new.volume.disk.now _ (search rules) (frames_left c.objects.ensures.kept.leads))
+    only_reads (session.the_view c.self.inside) c.args.self.now _ c.self.view_is (frames_to g.D.World.outside c.objects.new.volume.disk.now _ (search rules fits 200) (frames_left c.objects.ensures.kept.leads))
 
 pub returns-clause-oids : goal.returns-clause-oids
 returns-clause-oids g c =
@@ -34,3 +35,9 @@ returns-clause-damage g c =
     let over = over_session c.objects.ensures.kept w c.self.view_is c.self.invariant refl refl refl refl (λ h. h) in
     damage_told _ _ _ no_version c.objects.result c.or_stop.result c.or_stop.ensures over
     (IfErr-weaker c.objects.result _ _ (λ fault is told. as_it_is (of_walk c.args.file_no (is told))) c.objects.ensures.fault)
+
+pub objects-requires : goal.objects-requires
+objects-requires g c = main_read (session.the_view c.self.inside) c.args.self.now (g.D.World.outside c.args.disk.now).size c.self.view_is c.self.invariant c.requires.room
+
+pub returns-clause-session : goal.returns-clause-session
+returns-clause-session g c = seen c.self.view_is c.self.invariant

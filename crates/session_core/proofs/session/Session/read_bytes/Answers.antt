@@ -6,6 +6,7 @@ use Rattle.session_core.proofs.Damage.{damage_told}
 use Rattle.session_core.specs.Damage.{the_version}
 use Rattle.volume_edits.proofs.Damage.{told_version}
 use Rattle.volume_edits.specs.Damage.{as_it_is}
+use Rattle.session_core.proofs.Sessions.{main_read, seen}
 use Rattle.session_core.proofs.session.Session.read_bytes.Goals as goal
 
 pub invariant_of-self : goal.invariant_of-self
@@ -13,7 +14,7 @@ invariant_of-self g c = read_session (session.the_view c.self.inside) _ (frames_
 
 pub returns-clause-only : goal.returns-clause-only
 returns-clause-only g c =
-    only_reads (session.the_view c.self.inside) c.args.self.now _ c.self.view_is (frames_to g.D.World.outside c.read_at.new.volume.disk.now _ (search rules) (frames_left c.read_at.ensures.kept.leads))
+    only_reads (session.the_view c.self.inside) c.args.self.now _ c.self.view_is (frames_to g.D.World.outside c.read_at.new.volume.disk.now _ (search rules fits 200) (frames_left c.read_at.ensures.kept.leads))
 
 pub returns-clause-bytes : goal.returns-clause-bytes
 returns-clause-bytes g c =
@@ -39,3 +40,9 @@ returns-clause-damage g c =
     let over = over_session c.read_at.ensures.kept w c.self.view_is c.self.invariant refl refl refl refl (λ h. h) in
     damage_told _ _ _ (the_version c.args.oid.now) c.read_at.result c.or_stop.result c.or_stop.ensures over
     (IfErr-weaker c.read_at.result _ _ (λ fault is told. as_it_is (told_version _ _ _ _ (the_version c.args.oid.now) c.args.oid.now fault refl (is told))) c.read_at.ensures.fault)
+
+pub read_at-requires : goal.read_at-requires
+read_at-requires g c = main_read (session.the_view c.self.inside) c.args.self.now (g.D.World.outside c.args.disk.now).size c.self.view_is c.self.invariant c.requires.room
+
+pub returns-clause-session : goal.returns-clause-session
+returns-clause-session g c = seen c.self.view_is c.self.invariant

@@ -1,5 +1,8 @@
-use Rattle.std.proofs.Common.{◌∙◌, sym}
+use Rattle.std.proofs.Common.{◌∙◌, sym, Option, subst}
 use Rattle.std.proofs.lemmas.Result.{IfErr-weaker, on_ok_weaker}
+use Rattle.std.specs.Prelude.{IfErr}
+use Rattle.ex_base.specs.declared.names.Root.{Root}
+use Rattle.session_core.specs.Damage.{TellsOfFound}
 use Rattle.session_core.proofs.session.Session.read_found.Goals as goal
 
 pub returns-in-Some-clause-bytes : goal.returns-in-Some-clause-bytes
@@ -14,3 +17,11 @@ returns-in-None-clause-bytes g c = on_ok_weaker c.read_bytes.result (λ told bef
 
 pub returns-in-None-clause-sound : goal.returns-in-None-clause-sound
 returns-in-None-clause-sound g c = IfErr-weaker c.read_bytes.result _ _ (λ why told before same now version live root. told before same now version live) c.read_bytes.ensures.sound
+
+pub returns-in-Some-clause-damage : goal.returns-in-Some-clause-damage
+returns-in-Some-clause-damage g c =
+    subst (λ (root : Option Root). IfErr c.read_tree.result (TellsOfFound (g.D.World.outside c.args.disk.now) (g.D.World.outside c.read_tree.new.disk) c.args.self.now c.args.version.now.oid root)) (sym c.in-Some.is) c.read_tree.ensures.damage
+
+pub returns-in-None-clause-damage : goal.returns-in-None-clause-damage
+returns-in-None-clause-damage g c =
+    subst (λ (root : Option Root). IfErr c.read_bytes.result (TellsOfFound (g.D.World.outside c.args.disk.now) (g.D.World.outside c.read_bytes.new.disk) c.args.self.now c.args.version.now.oid root)) (sym c.in-None.is) c.read_bytes.ensures.damage

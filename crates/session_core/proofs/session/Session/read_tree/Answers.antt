@@ -1,16 +1,19 @@
-use Rattle.std.proofs.Common.{refl, rules}
+use Rattle.std.proofs.Common.{refl, rules, subst, sym}
 use Rattle.std.proofs.lemmas.Result.{IfErr-weaker, on_ok_weaker}
 use Rattle.session_core.proofs.Shaping.{holds, whole_read}
 use Rattle.session_core.specs.contracts.session.Session as session
 use Rattle.session_core.proofs.Finding.{frames_left, frames_to, no_damage, only_reads, over_session, port_shows, read_session, told_err, told_on_ok}
 use Rattle.session_core.proofs.Damage.{tree_told}
+use Rattle.session_core.proofs.Sessions.{main_read, seen}
+use Rattle.trees.specs.Roots.{IsRootFor}
+use Rattle.session_core.specs.Sessions.{SessionState}
 use Rattle.session_core.proofs.session.Session.read_tree.Goals as goal
 
 pub invariant_of-self : goal.invariant_of-self
 invariant_of-self g c = read_session (session.the_view c.self.inside) _ (frames_left c.read.ensures.kept.leads) c.self.invariant
 
 pub returns-clause-only : goal.returns-clause-only
-returns-clause-only g c = only_reads (session.the_view c.self.inside) c.args.self.now _ c.self.view_is (frames_to g.D.World.outside c.read.new.blocks.disk.now _ (search rules) (frames_left c.read.ensures.kept.leads))
+returns-clause-only g c = only_reads (session.the_view c.self.inside) c.args.self.now _ c.self.view_is (frames_to g.D.World.outside c.read.new.blocks.disk.now _ (search rules fits 200) (frames_left c.read.ensures.kept.leads))
 
 pub returns-clause-bytes : goal.returns-clause-bytes
 returns-clause-bytes g c =
@@ -30,3 +33,15 @@ pub returns-clause-damage : goal.returns-clause-damage
 returns-clause-damage g c =
     let over = over_session c.read.ensures.kept (g.D.World.outside c.args.disk.now) c.self.view_is c.self.invariant refl refl refl refl (λ h. h) in
     tree_told _ _ c.args.root.now c.read.result c.or_stop.result c.or_stop.ensures over c.read.ensures.fault
+
+pub read-requires-clause-ready : goal.read-requires-clause-ready
+read-requires-clause-ready g c = main_read (session.the_view c.self.inside) c.args.self.now (g.D.World.outside c.args.disk.now).size c.self.view_is c.self.invariant c.requires.room
+
+pub read-requires-clause-root : goal.read-requires-clause-root
+read-requires-clause-root g c = subst (λ (t : SessionState). IsRootFor t.geometry c.args.root.now) (sym c.self.view_is) c.requires.root
+
+pub read-requires-clause-range : goal.read-requires-clause-range
+read-requires-clause-range g c = c.requires.range
+
+pub returns-clause-session : goal.returns-clause-session
+returns-clause-session g c = seen c.self.view_is c.self.invariant

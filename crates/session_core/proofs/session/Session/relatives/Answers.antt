@@ -7,6 +7,7 @@ use Rattle.session_core.specs.contracts.session.Session as session
 use Rattle.session_core.proofs.Finding.{frames_left, frames_to, no_damage, only_reads, over_session, port_shows, read_session, told_err, told_ok}
 use Rattle.session_core.proofs.Damage.{damage_told}
 use Rattle.session_core.specs.Damage.{the_version}
+use Rattle.session_core.proofs.Sessions.{main_read, seen}
 use Rattle.session_core.proofs.session.Session.relatives.Goals as goal
 
 pub invariant_of-self : goal.invariant_of-self
@@ -14,7 +15,7 @@ invariant_of-self g c = read_session (session.the_view c.self.inside) _ (frames_
 
 pub returns-clause-only : goal.returns-clause-only
 returns-clause-only g c =
-    only_reads (session.the_view c.self.inside) c.args.self.now _ c.self.view_is (frames_to g.D.World.outside c.relatives_in.new.volume.disk.now _ (search rules) (frames_left c.relatives_in.ensures.kept.leads))
+    only_reads (session.the_view c.self.inside) c.args.self.now _ c.self.view_is (frames_to g.D.World.outside c.relatives_in.new.volume.disk.now _ (search rules fits 200) (frames_left c.relatives_in.ensures.kept.leads))
 
 pub returns-clause-oids : goal.returns-clause-oids
 returns-clause-oids g c =
@@ -36,3 +37,9 @@ returns-clause-damage g c =
     let over = over_session c.relatives_in.ensures.kept w c.self.view_is c.self.invariant refl refl refl refl (λ h. h) in
     damage_told _ _ _ (the_version c.args.oid.now) c.relatives_in.result c.or_stop.result c.or_stop.ensures over
     c.relatives_in.ensures.fault
+
+pub relatives_in-requires : goal.relatives_in-requires
+relatives_in-requires g c = main_read (session.the_view c.self.inside) c.args.self.now (g.D.World.outside c.args.disk.now).size c.self.view_is c.self.invariant c.requires.room
+
+pub returns-clause-session : goal.returns-clause-session
+returns-clause-session g c = seen c.self.view_is c.self.invariant

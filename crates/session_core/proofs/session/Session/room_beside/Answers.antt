@@ -7,6 +7,7 @@ use Rattle.session_core.proofs.Finding.{frames_left, frames_to, no_damage, ok_sh
 use Rattle.session_core.proofs.Damage.{both_errors, damage_told, room_over}
 use Rattle.session_core.specs.Damage.{the_version}
 use Rattle.volume_edits.specs.Damage.{as_it_is}
+use Rattle.session_core.proofs.Sessions.{main_read, seen}
 use Rattle.session_core.proofs.session.Session.room_beside.Goals as goal
 
 pub invariant_of-self : goal.invariant_of-self
@@ -14,7 +15,7 @@ invariant_of-self g c = read_session (session.the_view c.self.inside) _ (frames_
 
 pub returns-clause-only : goal.returns-clause-only
 returns-clause-only g c =
-    only_reads (session.the_view c.self.inside) c.args.self.now _ c.self.view_is (frames_to g.D.World.outside c.room_at.new.pages.disk.now _ (search rules) (frames_left c.room_at.ensures.kept.leads))
+    only_reads (session.the_view c.self.inside) c.args.self.now _ c.self.view_is (frames_to g.D.World.outside c.room_at.new.pages.disk.now _ (search rules fits 200) (frames_left c.room_at.ensures.kept.leads))
 
 pub returns-clause-room : goal.returns-clause-room
 returns-clause-room g c =
@@ -36,3 +37,9 @@ returns-clause-damage g c =
     let over = over_session c.room_at.ensures.kept w c.self.view_is c.self.invariant refl refl refl refl (λ h. h) in
     damage_told _ _ _ (the_version c.args.oid.now) c.room_at.result c.or_stop.result c.or_stop.ensures over
     (both_errors c.room_at.result _ _ _ c.room_at.ensures.fault c.room_at.ensures.sound (λ fault is isnt told. as_it_is (room_over _ _ _ _ c.args.oid.now fault is (λ some. isnt some told))))
+
+pub room_at-requires : goal.room_at-requires
+room_at-requires g c = main_read (session.the_view c.self.inside) c.args.self.now (g.D.World.outside c.args.disk.now).size c.self.view_is c.self.invariant c.requires.room
+
+pub returns-clause-session : goal.returns-clause-session
+returns-clause-session g c = seen c.self.view_is c.self.invariant

@@ -1,7 +1,10 @@
-use Rattle.std.proofs.Common.{◌≡◌, length, ap, arith}
+use Rattle.std.proofs.Common.{◌≡◌, length, ap, arith, subst}
 use Rattle.std.specs.Prelude.{drop}
 use Rattle.open_scans.specs.OpenScans.{OpenRow}
 use Rattle.session_core.proofs.Opening.{all_read}
+use Rattle.meta_pages.specs.Overlays.{AreRows}
+use Rattle.session_core.specs.Sessions.{SessionState}
+use Rattle.session_core.proofs.Quiet.{nothing_changed}
 use Rattle.session_core.proofs.session.Session.small_scan.Goals as goal
 
 pub returns-in-Err-clause-sound : goal.returns-in-Err-clause-sound
@@ -15,3 +18,18 @@ returns-in-Ok-of_small-clause-bytes g c = λ before same now told.
     let whole : length c.read_bytes.new.out ≡ c.in-Ok.bytes.len = omega (arith, c.read_bytes.auto.out, c.deref_mut.ensures.len) in
     all_read c.in-Ok.bytes.len c.deref_mut.result.now c.read_bytes.new.out (drop (length c.read_bytes.new.out) c.in-Ok.bytes.items) told.version.bytes c.deref.result.now c.in-Ok-of_small.scan.scan.small
     (ap (λ (r : OpenRow). r.scan.small) c.in-Ok-of_small.ensures) c.deref.ensures.value whole (omega (arith, long, told.size)) (c.in-Ok-read_bytes.ensures.bytes before same now told.version told.is)
+
+pub returns-in_default-clause-rows : goal.returns-in_default-clause-rows
+returns-in_default-clause-rows g c = subst (λ (t : SessionState). AreRows t.meta) c.self.view_is c.touched-touched.ensures.rows
+
+pub returns-in-Err-clause-rows : goal.returns-in-Err-clause-rows
+returns-in-Err-clause-rows g c = subst (λ (t : SessionState). AreRows t.meta) c.self.view_is c.touched-touched.ensures.rows
+
+pub returns-in-Ok-of_small-clause-rows : goal.returns-in-Ok-of_small-clause-rows
+returns-in-Ok-of_small-clause-rows g c = subst (λ (t : SessionState). AreRows t.meta) c.self.view_is c.touched-touched.ensures.rows
+
+pub returns-clause-rows : goal.returns-clause-rows
+returns-clause-rows g c = subst (λ (t : SessionState). AreRows t.meta) c.self.view_is c.touched-touched.ensures.rows
+
+pub returns-in_default-clause-only : goal.returns-in_default-clause-only
+returns-in_default-clause-only g c = nothing_changed (g.D.World.outside c.args.disk.now) c.args.self.now

@@ -5,6 +5,7 @@ use Rattle.session_core.specs.contracts.session.Session as session
 use Rattle.session_core.proofs.Finding.{frames_left, frames_to, no_damage, only_reads, over_session, read_session, told_err, told_ok}
 use Rattle.session_core.proofs.Damage.{damage_told}
 use Rattle.session_core.specs.Damage.{no_version}
+use Rattle.session_core.proofs.Sessions.{main_read, seen}
 use Rattle.session_core.proofs.session.Session.tally_of.Goals as goal
 
 pub invariant_of-self : goal.invariant_of-self
@@ -12,7 +13,7 @@ invariant_of-self g c = read_session (session.the_view c.self.inside) _ (frames_
 
 pub returns-clause-only : goal.returns-clause-only
 returns-clause-only g c =
-    only_reads (session.the_view c.self.inside) c.args.self.now _ c.self.view_is (frames_to g.D.World.outside c.tally_in.new.volume.disk.now _ (search rules) (frames_left c.tally_in.ensures.kept.leads))
+    only_reads (session.the_view c.self.inside) c.args.self.now _ c.self.view_is (frames_to g.D.World.outside c.tally_in.new.volume.disk.now _ (search rules fits 200) (frames_left c.tally_in.ensures.kept.leads))
 
 pub returns-clause-tally : goal.returns-clause-tally
 returns-clause-tally g c =
@@ -32,3 +33,9 @@ returns-clause-damage g c =
     let over = over_session c.tally_in.ensures.kept w c.self.view_is c.self.invariant refl refl refl refl (λ h. h) in
     damage_told _ _ _ no_version c.tally_in.result c.or_stop.result c.or_stop.ensures over
     c.tally_in.ensures.fault
+
+pub tally_in-requires : goal.tally_in-requires
+tally_in-requires g c = main_read (session.the_view c.self.inside) c.args.self.now (g.D.World.outside c.args.disk.now).size c.self.view_is c.self.invariant c.requires.room
+
+pub returns-clause-session : goal.returns-clause-session
+returns-clause-session g c = seen c.self.view_is c.self.invariant

@@ -13,13 +13,13 @@ use Rattle.volume_port.specs.declared.state.VolumeState.{VolumeState}
 use Rattle.session_core.specs.Counts.{free_in}
 use Rattle.session_core.specs.Finding.{IsOutside}
 use Rattle.session_core.specs.Performed.{CanPerform, NamesOid, charge_of, asked_of}
-use Rattle.session_core.specs.Sessions.{SessionState, IsSession}
+use Rattle.session_core.specs.Sessions.{SessionState, IsSession, TakesLogged}
 use Rattle.volume_edits.specs.TableUpdates.{updated}
 use Rattle.session_core.specs.Updates.{HasRoomFor, HasRoots, HoldsTable, IfAsked, IfUpdated, WritesUnused, note_with}
 use Rattle.session_core.specs.contracts.session.Session as session
 use Rattle.session_core.specs.declared.updates.Done.{Done}
 use Rattle.session_core.proofs.Finding.{no_damage}
-use Rattle.session_core.proofs.Moved.{at_oid, given_up_at, has_roots, has_seen, moments_of, moved_session, moved_to, note_with_oid, noted_so, on_err, session_ready, when_done}
+use Rattle.session_core.proofs.Moved.{at_oid, given_up_at, has_roots, has_seen, moments_of, moved_session, moved_to, note_with_oid, noted_so, on_err, session_ready, when_done, none_answered}
 use Rattle.session_core.proofs.session.Session.update_objects.Goals.{else-is_ok-via-then-is_ok+else-is_ok-2, else-is_ok-via-else-is_ok, in-Err, in-Ok}
 use Rattle.session_core.specs.Damage.{IsUpdateFault, TellsDamage}
 use Rattle.session_core.proofs.UpdateDamage.{update_told}
@@ -155,3 +155,45 @@ returns-clause-damage g c =
           (let told = subst (λ (r : Result Done PortFault). IfErr r (IsUpdateFault (outside c.args.host.now) b c.self.inside.volume s.gained asked)) w.in-Err.is c.update_volume-done.ensures.fault in
           subst (λ (t : SessionState). TellsDamage (outside c.args.host.now) b t asked w.stopped.result) c.self.view_is (update_told (outside c.args.host.now) b s asked w.in-Err.fault w.stopped.result w.stopped.ensures told))
     ]
+
+pub returns-clause-named : goal.returns-clause-named
+returns-clause-named g c = elim c.match-done.branch [
+  | in-Ok w ↦ none_answered _ _ _ w.result-is
+  | in-Err w ↦ none_answered _ _ _ w.result-is
+]
+
+pub returns-clause-noted : goal.returns-clause-noted
+returns-clause-noted g c = elim c.match-done.branch [
+  | in-Ok w ↦ none_answered _ _ _ w.result-is
+  | in-Err w ↦ none_answered _ _ _ w.result-is
+]
+
+pub returns-clause-holds : goal.returns-clause-holds
+returns-clause-holds g c = elim c.match-done.branch [
+  | in-Ok w ↦ none_answered _ _ _ w.result-is
+  | in-Err w ↦ none_answered _ _ _ w.result-is
+]
+
+pub returns-clause-touched : goal.returns-clause-touched
+returns-clause-touched g c = elim c.match-done.branch [
+  | in-Ok w ↦ none_answered _ _ _ w.result-is
+  | in-Err w ↦ none_answered _ _ _ w.result-is
+]
+
+pub returns-clause-kept : goal.returns-clause-kept
+returns-clause-kept g c = elim c.match-done.branch [
+  | in-Ok w ↦ none_answered _ _ _ w.result-is
+  | in-Err w ↦ none_answered _ _ _ w.result-is
+]
+
+pub returns-clause-shares : goal.returns-clause-shares
+returns-clause-shares g c copies = elim c.match-done.branch [
+  | in-Ok w ↦ none_answered _ _ _ w.result-is
+  | in-Err w ↦ none_answered _ _ _ w.result-is
+]
+
+pub returns-then-is_ok-2-clause-shares : goal.returns-then-is_ok-2-clause-shares
+returns-then-is_ok-2-clause-shares g c copies =
+    let p = c.update_volume-done.new.volume in
+    subst (λ (t : SessionState). TakesLogged t.units p.units p.pages) c.self.view_is
+    (when_done c.update_volume-done.result (sym c.is_ok.ensures.value ∙ c.if-is_ok.true) (c.update_volume-done.ensures.shares copies))

@@ -1,6 +1,8 @@
 use Rattle.std.proofs.Common.{◌∙◌, ℕ, ap}
 use Rattle.slotted_pages.specs.FilePage.{room_of}
 use Rattle.session_core.proofs.Beside.{room_told}
+use Rattle.ex_base.proofs.Keeping.{keeps_refl}
+use Rattle.ex_base.proofs.Results.{if_err_handed}
 use Rattle.session_core.proofs.session.beside.room_at.Goals as goal
 
 pub returns-then-not-in_area-clause-cause : goal.returns-then-not-in_area-clause-cause
@@ -13,3 +15,12 @@ returns-in-Some-clause-room g c = λ tells.
 
 pub returns-in-None-clause-cause : goal.returns-in-None-clause-cause
 returns-in-None-clause-cause g c = c.no_file_page-in-None.ensures.cause (g.P.Ground.faults c.args.pages.now) (g.P.Ground.faults c.get.follows.lender-at-none)
+
+pub returns-then-not-in_area-clause-kept : goal.returns-then-not-in_area-clause-kept
+returns-then-not-in_area-clause-kept g c = keeps_refl g.P.Ground c.args.pages.now
+
+pub returns-in_err-get-clause-sound : goal.returns-in_err-get-clause-sound
+returns-in_err-get-clause-sound g c = if_err_handed c.from_residual.result _ _ c.from_residual.ensures.1 (λ damage told area page. c.in_err-get.ensures.no_damage damage)
+
+pub returns-in-Some-clause-area : goal.returns-in-Some-clause-area
+returns-in-Some-clause-area g c = c.in_area.ensures.0 c.if-not-in_area.false

@@ -1,4 +1,4 @@
-use Rattle.std.proofs.Common.{◌≡◌, ℕ, ◌≤◌, List, ◌∙◌, ap, length}
+use Rattle.std.proofs.Common.{◌≡◌, ℕ, ◌≤◌, List, ◌∙◌, ap, length, ◌+◌, ◌*◌, subst, sym}
 use Rattle.ex_base.specs.Area.{catalog_no}
 use Rattle.buffer_groups.specs.Frames.{Frames, Lends, page_of}
 use Rattle.buffer_groups.proofs.GroupLists.{groups_keep, at_index}
@@ -43,3 +43,11 @@ pub returns-clause-len : goal.returns-clause-len
 returns-clause-len g c =
     let size = at_index (λ (f : Frames). f.page_size ≡ c.args.meta.now.geometry.page_size) c.args.groups.now 0 c.at.result.now c.at.ensures.value c.requires.main c.requires.sizes in
     ap (λ (l : List ℕ). length l) (c.in_ok-to_vec.ensures.items_if_clones_equal (λ x y is. is)) ∙ c.in_ok-bytes.ensures.len ∙ size
+
+pub image-requires-clause-sizes : goal.image-requires-clause-sizes
+image-requires-clause-sizes g c = at_index (λ (f : Frames). f.page_size ≡ c.args.meta.now.geometry.page_size) c.args.groups.now 0 c.at.result.now c.at.ensures.value c.requires.main c.requires.sizes
+
+pub image-requires-clause-range : goal.image-requires-clause-range
+image-requires-clause-range g c =
+    let size = at_index (λ (f : Frames). f.page_size ≡ c.args.meta.now.geometry.page_size) c.args.groups.now 0 c.at.result.now c.at.ensures.value c.requires.main c.requires.sizes in
+    subst (λ (n : ℕ). (c.args.page.0 + 1) * n ≤ (g.D.World.outside c.args.disk.now).size) (sym size) c.requires.room

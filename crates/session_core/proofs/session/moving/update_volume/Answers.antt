@@ -1,4 +1,4 @@
-use Rattle.std.proofs.Common.{◌+◌, ◌≤◌, ap, length, refl, subst, sym, arith, inl, Bool, List}
+use Rattle.std.proofs.Common.{◌+◌, ◌≤◌, ap, length, refl, subst, sym, arith, inl, Bool, List, ◌≡◌, ◌∙◌}
 use Rattle.meta_pages.specs.Overlays.{AreRows}
 use Rattle.page_alloc.specs.UnitSet.{free_count, used_at}
 use Rattle.table_model.specs.Machines.{shown}
@@ -17,6 +17,7 @@ use Rattle.ex_base.specs.declared.names.Root.{Root}
 use Rattle.volume_model.specs.Held.{root_here}
 use Rattle.volume_port.specs.GivingUp.{OwnRoots}
 use Rattle.session_core.specs.Turning.{TakenOut}
+use Rattle.ex_base.specs.Area.{area_end}
 use Rattle.session_core.proofs.session.moving.update_volume.Goals as goal
 
 pub update_parts-requires-clause-ready : goal.update_parts-requires-clause-ready
@@ -104,3 +105,27 @@ returns-in_err-turn_roots-clause-sound g c =
     subst (λ (kept : List Bool). OwnRoots u.pages kept v.geometry b u.groups counted (root_here gone)) (ap (λ (q : VolumeState). q.kept) seen.volume)
     (subst (λ (h : Geometry). OwnRoots u.pages before.session.kept h b u.groups counted (root_here gone)) (ap (λ (q : VolumeState). q.geometry) seen.volume)
     (c.in_ok-done.ensures.owns v has c.requires.ready before seen now w is asked counted rest counts (subst (λ (gains : List Root). TakenOut gains rest gone) (sym roots.gained) out)))))
+
+pub turn_roots-requires-clause-ready : goal.turn_roots-requires-clause-ready
+turn_roots-requires-clause-ready g c =
+    let v = c.args.volume.now in
+    let has : HasParts v v.geometry v.units v.groups v.meta v.pages = record { geometry = refl; parts = refl } in
+    let moved = c.update_parts.ensures.moved v has c.requires.ready in
+    moved.ready.fits
+
+pub turn_roots-requires-clause-held : goal.turn_roots-requires-clause-held
+turn_roots-requires-clause-held g c =
+    let v = c.args.volume.now in
+    let has : HasParts v v.geometry v.units v.groups v.meta v.pages = record { geometry = refl; parts = refl } in
+    let moved = c.update_parts.ensures.moved v has c.requires.ready in
+    moved.ready.held_len
+
+pub turn_roots-requires-clause-flags : goal.turn_roots-requires-clause-flags
+turn_roots-requires-clause-flags g c = c.requires.ready.kept_len
+
+pub sweep-requires-clause-flags : goal.sweep-requires-clause-flags
+sweep-requires-clause-flags g c =
+    let v = c.args.volume.now in
+    let has : HasParts v v.geometry v.units v.groups v.meta v.pages = record { geometry = refl; parts = refl } in
+    let moved = c.update_parts.ensures.moved v has c.requires.ready in
+    subst (λ (q : VolumeState). length q.kept ≡ area_end q.meta.geometry) (sym c.turn_roots.ensures.rest) (c.requires.ready.kept_len ∙ ap area_end (sym moved.ready.overlay))

@@ -1,11 +1,13 @@
-use Rattle.std.proofs.Common.{◌≡◌, ◌∙◌, true, false, sym, ap, subst, arith}
+use Rattle.std.proofs.Common.{◌≡◌, ◌∙◌, true, false, sym, ap, subst, arith, ◌<◌, ℕ}
 use Rattle.std.specs.Option.{option_copied}
 use Rattle.meta_pages.specs.Overlays.{IsWorkingRow}
 use Rattle.page_alloc.specs.UnitSet.{UnitSet, used_at}
 use Rattle.volume_model.specs.Shown.{WorkingRow}
 use Rattle.session_core.specs.Sessions.{OnlyGives}
-use Rattle.session_core.proofs.Settling.{taken_back_next, copied_some, at_row}
+use Rattle.session_core.proofs.Settling.{taken_back_next, copied_some, at_row, row_area}
 use Rattle.session_core.proofs.session.settle.take_back.Goals.{in-Some, in_default}
+use Rattle.ex_base.specs.declared.geometry.Geometry.{Geometry}
+use Rattle.ex_base.specs.Area.{InPageArea}
 use Rattle.session_core.proofs.session.settle.take_back.Goals as goal
 
 pub loop-index-preserved : goal.loop-index-preserved
@@ -25,3 +27,14 @@ loop-index-preserved c =
           (λ some off unnamed. ap (λ (u : UnitSet). used_at u row.0) w.units-is ∙ w.take_back_page.ensures.freed some off unnamed)
       | in_default w ↦ absurd (omega (arith, w.in_default.ensures, c.loop-index-test.true, c.touched-index-end.ensures.value))
     ]
+
+pub take_back_page-requires-clause-area : goal.take_back_page-requires-clause-area
+take_back_page-requires-clause-area c =
+    subst (λ (h : Geometry). InPageArea h c.in-Some.page.0) (sym (c.loop-index.invariant.units.geometry ∙ c.requires.geometry))
+    (row_area c.args.meta.now c.touched-index-end.ensures.rows c.loop-index.index c.in-Some.page.0 _ c.in-Some.ensures)
+
+pub get-flag-requires : goal.get-flag-requires
+get-flag-requires c = subst (λ (n : ℕ). c.in-Some.page.0 < n) (sym (c.requires.flags)) (row_area c.args.meta.now c.touched-index-end.ensures.rows c.loop-index.index c.in-Some.page.0 _ c.in-Some.ensures).1
+
+pub take_back_page-requires-clause-held : goal.take_back_page-requires-clause-held
+take_back_page-requires-clause-held c = subst (λ (n : ℕ). c.in-Some.page.0 < n) (sym (c.loop-index.invariant.held_len ∙ c.requires.held)) (row_area c.args.meta.now c.touched-index-end.ensures.rows c.loop-index.index c.in-Some.page.0 _ c.in-Some.ensures).1

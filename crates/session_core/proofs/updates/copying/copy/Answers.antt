@@ -1,10 +1,10 @@
-use Rattle.std.proofs.Common.{◌≡◌, ◌∙◌, ℕ, List, None, sym, subst, refl}
+use Rattle.std.proofs.Common.{◌≡◌, ◌∙◌, ℕ, List, None, sym, subst, refl, ◌+◌, ◌≤◌, inl}
 use Rattle.std.specs.Prelude.{Ok, Err}
 use Rattle.ex_base.specs.declared.names.Place.{Place}
-use Rattle.ex_base.specs.Ports.{IsDamage}
+use Rattle.ex_base.specs.Ports.{IsDamage, Cause}
 use Rattle.ex_base.specs.declared.names.Index.{Index}
 use Rattle.file_bodies.specs.Files.{HasBody}
-use Rattle.std.proofs.lemmas.Result.{IfErr-at_err, IfErr-weaker, IfOk-at_ok, err_from_is_err_and}
+use Rattle.std.proofs.lemmas.Result.{IfErr-at_err, IfErr-weaker, IfOk-at_ok, err_from_is_err_and, MatchResult-at_err}
 use Rattle.ex_base.proofs.Results.{from_ok}
 use Rattle.session_core.specs.declared.updates.copying.Copying.{Copying}
 use Rattle.session_core.specs.declared.updates.copying.Copying.TheVariants as copying
@@ -12,7 +12,7 @@ use Rattle.session_core.specs.Performed.{copies}
 use Rattle.volume_edits.specs.TableUpdates.{TakesNeed}
 use Rattle.session_core.specs.Performed.{Updates}
 use Rattle.session_core.proofs.Copied.{copy_taken, derive_failed, derived_made, freeze_failed, frozen_made, uncounted, unfiled}
-use Rattle.session_core.proofs.Followed.{still_taken, still_updated}
+use Rattle.session_core.proofs.Followed.{still_taken, still_updated, copied_few, still_done, still_touches, touches_on}
 use Rattle.file_rooms.specs.Rooms.{ChangesOne}
 use Rattle.volume_edits.specs.Damage.{ports_own}
 use Rattle.versions.proofs.Results.{ok_of}
@@ -24,6 +24,12 @@ use Rattle.version_tree.specs.Links.{IsStartFault}
 use Rattle.volume_edits.specs.Damage.{as_it_is}
 use Rattle.volume_edits.proofs.Damage.{after_count, after_reading, told_catalog, told_derive, told_freeze, told_start}
 use Rattle.session_core.specs.Damage.{IsFaultIn, the_version}
+use Rattle.ex_base.specs.declared.names.Area.{Area}
+use Rattle.ex_base.specs.declared.names.Area.TheVariants.{Page}
+use Rattle.ex_base.proofs.Handed.{cause_after, cause_of, handed_after}
+use Rattle.file_bodies.specs.Touches.{body_pages}
+use Rattle.version_tree.specs.Touches.{version_touches}
+use Rattle.session_core.specs.declared.updates.Done.{Done}
 use Rattle.session_core.proofs.updates.copying.copy.Goals.{in-Freeze, in-Derive}
 
 pub returns-in_err-count_number-clause-updates : goal.returns-in_err-count_number-clause-updates
@@ -135,3 +141,88 @@ returns-in-Err-clause-fault g c = λ told.
       | in-Freeze w ↦ told_freeze _ _ own _ c.args.oid.now fault refl (IfErr-at_err _ (sym w.copied-is ∙ c.in-Err.is) w.freeze-copied.ensures.fault there)
       | in-Derive w ↦ told_derive _ _ own _ c.args.oid.now fault refl (IfErr-at_err _ (sym w.copied-is ∙ c.in-Err.is) w.derive-copied.ensures.fault there)
     ]))
+
+-- ---- what else is asked and promised
+
+pub file_of-requires : goal.file_of-requires
+file_of-requires g c = g.V.Ground.leads_ready c.args.volume.now c.count_number.new.volume c.count_number.ensures.leads c.requires.ready
+
+pub freeze-copied-requires-clause-ready : goal.freeze-copied-requires-clause-ready
+freeze-copied-requires-clause-ready g c = g.V.Ground.leads_ready c.args.volume.now c.file_of.new.volume (g.V.Ground.leads_trans c.args.volume.now c.count_number.new.volume c.file_of.new.volume c.count_number.ensures.leads c.file_of.ensures.kept.leads) c.requires.ready
+
+pub freeze-copied-requires-clause-free : goal.freeze-copied-requires-clause-free
+freeze-copied-requires-clause-free g c = subst (λ (free : Area → ℕ). body_pages ≤ free Page) (sym (c.file_of.ensures.kept.free ∙ c.in_ok-count_number.ensures.free)) c.requires.pages
+
+pub derive-copied-requires-clause-ready : goal.derive-copied-requires-clause-ready
+derive-copied-requires-clause-ready g c = g.V.Ground.leads_ready c.args.volume.now c.file_of.new.volume (g.V.Ground.leads_trans c.args.volume.now c.count_number.new.volume c.file_of.new.volume c.count_number.ensures.leads c.file_of.ensures.kept.leads) c.requires.ready
+
+pub derive-copied-requires-clause-free : goal.derive-copied-requires-clause-free
+derive-copied-requires-clause-free g c = subst (λ (free : Area → ℕ). body_pages ≤ free Page) (sym (c.file_of.ensures.kept.free ∙ c.in_ok-count_number.ensures.free)) c.requires.pages
+
+pub look_at-requires : goal.look_at-requires
+look_at-requires g c =
+    g.V.Ground.leads_ready c.args.volume.now c.match-copying.volume (elim c.match-copying.branch [
+      | in-Freeze w ↦ subst (λ volume. g.V.Ground.leads c.args.volume.now volume) (sym w.volume-is) (g.V.Ground.leads_trans c.args.volume.now c.file_of.new.volume w.freeze-copied.new.volume (g.V.Ground.leads_trans c.args.volume.now c.count_number.new.volume c.file_of.new.volume c.count_number.ensures.leads c.file_of.ensures.kept.leads) w.freeze-copied.ensures.leads)
+      | in-Derive w ↦ subst (λ volume. g.V.Ground.leads c.args.volume.now volume) (sym w.volume-is) (g.V.Ground.leads_trans c.args.volume.now c.file_of.new.volume w.derive-copied.new.volume (g.V.Ground.leads_trans c.args.volume.now c.count_number.new.volume c.file_of.new.volume c.count_number.ensures.leads c.file_of.ensures.kept.leads) w.derive-copied.ensures.leads)
+    ]) c.requires.ready
+
+pub returns-in_err-file_of-clause-leads : goal.returns-in_err-file_of-clause-leads
+returns-in_err-file_of-clause-leads g c = (g.V.Ground.leads_trans c.args.volume.now c.count_number.new.volume c.file_of.new.volume c.count_number.ensures.leads c.file_of.ensures.kept.leads)
+
+pub returns-in_err-file_of-clause-cause : goal.returns-in_err-file_of-clause-cause
+returns-in_err-file_of-clause-cause g c =
+    handed_after g.V.Ground c.args.volume.now c.count_number.new.volume c.count_number.ensures.leads c.file_of.new.volume c.from_residual-in_err-file_of.result c.in_err-file_of.field-0.0 c.from_residual-in_err-file_of.ensures.1 c.in_err-file_of.ensures.cause
+
+pub returns-in-Ok-clause-named : goal.returns-in-Ok-clause-named
+returns-in-Ok-clause-named g c =
+    still_done c.look_at.result _ (λ (done : Done). done.oid.unique ≡ c.args.unique) (elim c.match-copying.branch [
+      | in-Freeze w ↦ IfOk-at_ok _ (sym w.copied-is ∙ c.in-Ok.is) w.freeze-copied.ensures.number
+      | in-Derive w ↦ IfOk-at_ok _ (sym w.copied-is ∙ c.in-Ok.is) w.derive-copied.ensures.number
+    ]) c.look_at.ensures.same
+
+pub returns-in-Ok-clause-leads : goal.returns-in-Ok-clause-leads
+returns-in-Ok-clause-leads g c =
+    g.V.Ground.leads_trans c.args.volume.now c.match-copying.volume c.look_at.new.volume (elim c.match-copying.branch [
+      | in-Freeze w ↦ subst (λ volume. g.V.Ground.leads c.args.volume.now volume) (sym w.volume-is) (g.V.Ground.leads_trans c.args.volume.now c.file_of.new.volume w.freeze-copied.new.volume (g.V.Ground.leads_trans c.args.volume.now c.count_number.new.volume c.file_of.new.volume c.count_number.ensures.leads c.file_of.ensures.kept.leads) w.freeze-copied.ensures.leads)
+      | in-Derive w ↦ subst (λ volume. g.V.Ground.leads c.args.volume.now volume) (sym w.volume-is) (g.V.Ground.leads_trans c.args.volume.now c.file_of.new.volume w.derive-copied.new.volume (g.V.Ground.leads_trans c.args.volume.now c.count_number.new.volume c.file_of.new.volume c.count_number.ensures.leads c.file_of.ensures.kept.leads) w.derive-copied.ensures.leads)
+    ]) c.look_at.ensures.kept.leads
+
+pub returns-in-Ok-clause-cause : goal.returns-in-Ok-clause-cause
+returns-in-Ok-clause-cause g c =
+    cause_of g.V.Ground c.args.volume.now c.match-copying.volume (elim c.match-copying.branch [
+      | in-Freeze w ↦ subst (λ volume. g.V.Ground.leads c.args.volume.now volume) (sym w.volume-is) (g.V.Ground.leads_trans c.args.volume.now c.file_of.new.volume w.freeze-copied.new.volume (g.V.Ground.leads_trans c.args.volume.now c.count_number.new.volume c.file_of.new.volume c.count_number.ensures.leads c.file_of.ensures.kept.leads) w.freeze-copied.ensures.leads)
+      | in-Derive w ↦ subst (λ volume. g.V.Ground.leads c.args.volume.now volume) (sym w.volume-is) (g.V.Ground.leads_trans c.args.volume.now c.file_of.new.volume w.derive-copied.new.volume (g.V.Ground.leads_trans c.args.volume.now c.count_number.new.volume c.file_of.new.volume c.count_number.ensures.leads c.file_of.ensures.kept.leads) w.derive-copied.ensures.leads)
+    ]) c.look_at.new.volume c.look_at.result c.look_at.ensures.cause
+
+pub returns-in-Ok-clause-touches : goal.returns-in-Ok-clause-touches
+returns-in-Ok-clause-touches g c =
+    let first = subst (λ (n : ℕ). n ≤ g.V.Ground.touched c.args.volume.now + 1) (sym c.file_of.ensures.kept.touched) c.in_ok-count_number.ensures.touches in
+    still_touches g.V.Ground c.args.volume.now c.match-copying.volume c.look_at.new.volume (1 + version_touches) 16 c.look_at.result c.look_at.ensures.kept.touched copied_few (elim c.match-copying.branch [
+      | in-Freeze w ↦ let did : w.freeze-copied.result ≡ Ok c.in-Ok.made = sym w.copied-is ∙ c.in-Ok.is in
+          subst (λ volume. g.V.Ground.touched volume ≤ g.V.Ground.touched c.args.volume.now + (1 + version_touches)) (sym w.volume-is)
+          (touches_on g.V.Ground c.args.volume.now c.file_of.new.volume w.freeze-copied.new.volume 1 version_touches first (from_ok w.freeze-copied.result c.in-Ok.made _ did w.freeze-copied.ensures.touches))
+      | in-Derive w ↦ let did : w.derive-copied.result ≡ Ok c.in-Ok.made = sym w.copied-is ∙ c.in-Ok.is in
+          subst (λ volume. g.V.Ground.touched volume ≤ g.V.Ground.touched c.args.volume.now + (1 + version_touches)) (sym w.volume-is)
+          (touches_on g.V.Ground c.args.volume.now c.file_of.new.volume w.derive-copied.new.volume 1 version_touches first (from_ok w.derive-copied.result c.in-Ok.made _ did w.derive-copied.ensures.touches))
+    ])
+
+pub returns-in-Err-clause-rooms : goal.returns-in-Err-clause-rooms
+returns-in-Err-clause-rooms g c = inl refl
+
+pub returns-in-Err-clause-leads : goal.returns-in-Err-clause-leads
+returns-in-Err-clause-leads g c =
+    (elim c.match-copying.branch [
+      | in-Freeze w ↦ subst (λ volume. g.V.Ground.leads c.args.volume.now volume) (sym w.volume-is) (g.V.Ground.leads_trans c.args.volume.now c.file_of.new.volume w.freeze-copied.new.volume (g.V.Ground.leads_trans c.args.volume.now c.count_number.new.volume c.file_of.new.volume c.count_number.ensures.leads c.file_of.ensures.kept.leads) w.freeze-copied.ensures.leads)
+      | in-Derive w ↦ subst (λ volume. g.V.Ground.leads c.args.volume.now volume) (sym w.volume-is) (g.V.Ground.leads_trans c.args.volume.now c.file_of.new.volume w.derive-copied.new.volume (g.V.Ground.leads_trans c.args.volume.now c.count_number.new.volume c.file_of.new.volume c.count_number.ensures.leads c.file_of.ensures.kept.leads) w.derive-copied.ensures.leads)
+    ])
+
+pub returns-in-Err-clause-cause : goal.returns-in-Err-clause-cause
+returns-in-Err-clause-cause g c =
+    (elim c.match-copying.branch [
+      | in-Freeze w ↦ let failed : w.freeze-copied.result ≡ Err c.in-Err.fault = sym w.copied-is ∙ c.in-Err.is in
+          subst (λ volume. Cause (g.V.Ground.faults c.args.volume.now) (g.V.Ground.faults volume) c.in-Err.fault) (sym w.volume-is)
+          (cause_after g.V.Ground c.args.volume.now c.file_of.new.volume (g.V.Ground.leads_trans c.args.volume.now c.count_number.new.volume c.file_of.new.volume c.count_number.ensures.leads c.file_of.ensures.kept.leads) w.freeze-copied.new.volume c.in-Err.fault (MatchResult-at_err _ _ c.in-Err.fault failed w.freeze-copied.ensures.cause))
+      | in-Derive w ↦ let failed : w.derive-copied.result ≡ Err c.in-Err.fault = sym w.copied-is ∙ c.in-Err.is in
+          subst (λ volume. Cause (g.V.Ground.faults c.args.volume.now) (g.V.Ground.faults volume) c.in-Err.fault) (sym w.volume-is)
+          (cause_after g.V.Ground c.args.volume.now c.file_of.new.volume (g.V.Ground.leads_trans c.args.volume.now c.count_number.new.volume c.file_of.new.volume c.count_number.ensures.leads c.file_of.ensures.kept.leads) w.derive-copied.new.volume c.in-Err.fault (MatchResult-at_err _ _ c.in-Err.fault failed w.derive-copied.ensures.cause))
+    ])

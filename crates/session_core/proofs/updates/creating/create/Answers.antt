@@ -1,9 +1,9 @@
-use Rattle.std.proofs.Common.{None, sym, subst, ◌∙◌}
+use Rattle.std.proofs.Common.{None, sym, subst, ◌∙◌, ◌≡◌, ◌+◌, ◌≤◌, ℕ, inl, refl}
 use Rattle.std.proofs.lemmas.Result.{err_from_is_err_and}
 use Rattle.volume_edits.specs.Ported.{index_named}
 use Rattle.volume_edits.proofs.Contents.{has_catalog}
 use Rattle.volume_edits.proofs.Making.{becomes, its_file}
-use Rattle.session_core.proofs.Followed.{still_taken, still_updated}
+use Rattle.session_core.proofs.Followed.{still_taken, still_updated, created_few, still_done, still_touches, touches_on}
 use Rattle.volume_edits.specs.TableUpdates.{Makes}
 use Rattle.versions.proofs.Results.{ok_of}
 use Rattle.std.proofs.lemmas.Result.{IfErr-weaker}
@@ -13,6 +13,11 @@ use Rattle.volume_edits.specs.Damage.{as_it_is, of_placing, ports_own}
 use Rattle.volume_edits.proofs.Damage.{after_count, told_catalog}
 use Rattle.session_core.specs.Damage.{IsFaultIn, no_version}
 use Rattle.file_rooms.specs.Rooms.{ChangesOne}
+use Rattle.ex_base.specs.declared.names.Area.{Area}
+use Rattle.ex_base.specs.declared.names.Area.TheVariants.{Page}
+use Rattle.ex_base.proofs.Handed.{cause_after, cause_of}
+use Rattle.file_bodies.specs.Touches.{body_pages, body_touches}
+use Rattle.session_core.specs.declared.updates.Done.{Done}
 use Rattle.session_core.proofs.updates.creating.create.Goals as goal
 
 pub returns-in_err-count_number-clause-updates : goal.returns-in_err-count_number-clause-updates
@@ -69,3 +74,37 @@ returns-in-Err-clause-fault g c = λ told.
     let mid = c.count_number.new.volume in
     after_count g.V.Ground no_version c.in-Err.fault c.args.volume.now mid _ (c.in_ok-count_number.ensures.counts told)
     (of_placing c.of_file-asked.result.file_no _ (c.in-Err.ensures.fault (g.V.Ground.leads_told c.args.volume.now mid c.count_number.ensures.leads told)))
+
+-- ---- what else is asked and promised
+
+pub create-requires-clause-ready : goal.create-requires-clause-ready
+create-requires-clause-ready g c = g.V.Ground.leads_ready c.args.volume.now c.count_number.new.volume c.count_number.ensures.leads c.requires.ready
+
+pub create-requires-clause-free : goal.create-requires-clause-free
+create-requires-clause-free g c = subst (λ (free : Area → ℕ). body_pages ≤ free Page) (sym c.in_ok-count_number.ensures.free) c.requires.pages
+
+pub look_at-requires : goal.look_at-requires
+look_at-requires g c = g.V.Ground.leads_ready c.args.volume.now c.create.new.volume (g.V.Ground.leads_trans c.args.volume.now c.count_number.new.volume c.create.new.volume c.count_number.ensures.leads c.create.ensures.leads) c.requires.ready
+
+pub returns-in-Ok-clause-named : goal.returns-in-Ok-clause-named
+returns-in-Ok-clause-named g c = still_done c.look_at.result _ (λ (done : Done). done.oid.unique ≡ c.args.unique) c.in-Ok.ensures.number c.look_at.ensures.same
+
+pub returns-in-Ok-clause-leads : goal.returns-in-Ok-clause-leads
+returns-in-Ok-clause-leads g c = g.V.Ground.leads_trans c.args.volume.now c.create.new.volume c.look_at.new.volume (g.V.Ground.leads_trans c.args.volume.now c.count_number.new.volume c.create.new.volume c.count_number.ensures.leads c.create.ensures.leads) c.look_at.ensures.kept.leads
+
+pub returns-in-Ok-clause-cause : goal.returns-in-Ok-clause-cause
+returns-in-Ok-clause-cause g c = cause_of g.V.Ground c.args.volume.now c.create.new.volume (g.V.Ground.leads_trans c.args.volume.now c.count_number.new.volume c.create.new.volume c.count_number.ensures.leads c.create.ensures.leads) c.look_at.new.volume c.look_at.result c.look_at.ensures.cause
+
+pub returns-in-Ok-clause-touches : goal.returns-in-Ok-clause-touches
+returns-in-Ok-clause-touches g c =
+    still_touches g.V.Ground c.args.volume.now c.create.new.volume c.look_at.new.volume (1 + body_touches) 16 c.look_at.result c.look_at.ensures.kept.touched created_few
+    (touches_on g.V.Ground c.args.volume.now c.count_number.new.volume c.create.new.volume 1 body_touches c.in_ok-count_number.ensures.touches c.in-Ok.ensures.touches)
+
+pub returns-in-Err-clause-rooms : goal.returns-in-Err-clause-rooms
+returns-in-Err-clause-rooms g c = inl refl
+
+pub returns-in-Err-clause-leads : goal.returns-in-Err-clause-leads
+returns-in-Err-clause-leads g c = (g.V.Ground.leads_trans c.args.volume.now c.count_number.new.volume c.create.new.volume c.count_number.ensures.leads c.create.ensures.leads)
+
+pub returns-in-Err-clause-cause : goal.returns-in-Err-clause-cause
+returns-in-Err-clause-cause g c = cause_after g.V.Ground c.args.volume.now c.count_number.new.volume c.count_number.ensures.leads c.create.new.volume c.in-Err.fault c.in-Err.ensures.cause

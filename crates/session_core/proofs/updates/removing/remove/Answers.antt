@@ -1,13 +1,16 @@
-use Rattle.std.proofs.Common.{None, refl, inl}
+use Rattle.std.proofs.Common.{None, refl, inl, ◌≡◌}
 use Rattle.volume_edits.specs.TableUpdates.{Removes}
 use Rattle.session_core.proofs.Removed.{removal_failed, version_removed}
-use Rattle.session_core.proofs.Followed.{still_updated}
+use Rattle.session_core.proofs.Followed.{still_updated, still_done, still_touches, version_few}
 use Rattle.versions.proofs.Results.{ok_of}
 use Rattle.volume_edits.proofs.UnitsTaken.{nothing_taken}
 use Rattle.session_core.specs.Damage.{IsFaultIn, the_version}
 use Rattle.std.proofs.lemmas.Result.{IfErr-weaker}
 use Rattle.volume_edits.specs.Damage.{as_it_is, ports_own}
 use Rattle.volume_edits.proofs.Damage.{told_removal}
+use Rattle.ex_base.proofs.Handed.{cause_of}
+use Rattle.session_core.specs.declared.updates.Done.{Done}
+use Rattle.version_tree.specs.Touches.{version_touches}
 use Rattle.session_core.proofs.updates.removing.remove.Goals as goal
 
 pub returns-in-Ok-clause-updates : goal.returns-in-Ok-clause-updates
@@ -31,3 +34,21 @@ returns-in-Ok-clause-fault g c = IfErr-weaker c.look_at.result _ (IsFaultIn g.V.
 
 pub returns-in-Err-clause-fault : goal.returns-in-Err-clause-fault
 returns-in-Err-clause-fault g c = λ told. as_it_is (told_removal _ _ (the_version c.args.oid.now) c.take_out.new.volume c.args.oid.now c.in-Err.fault refl (c.in-Err.ensures.fault told))
+
+pub look_at-requires : goal.look_at-requires
+look_at-requires g c = g.V.Ground.leads_ready c.args.volume.now c.take_out.new.volume c.take_out.ensures.leads c.requires
+
+pub returns-in-Ok-clause-touches : goal.returns-in-Ok-clause-touches
+returns-in-Ok-clause-touches g c = still_touches g.V.Ground c.args.volume.now c.take_out.new.volume c.look_at.new.volume version_touches 16 c.look_at.result c.look_at.ensures.kept.touched version_few c.in-Ok.ensures.touches
+
+pub returns-in-Ok-clause-leads : goal.returns-in-Ok-clause-leads
+returns-in-Ok-clause-leads g c = g.V.Ground.leads_trans c.args.volume.now c.take_out.new.volume c.look_at.new.volume c.take_out.ensures.leads c.look_at.ensures.kept.leads
+
+pub returns-in-Ok-clause-cause : goal.returns-in-Ok-clause-cause
+returns-in-Ok-clause-cause g c = cause_of g.V.Ground c.args.volume.now c.take_out.new.volume c.take_out.ensures.leads c.look_at.new.volume c.look_at.result c.look_at.ensures.cause
+
+pub returns-in-Ok-clause-named : goal.returns-in-Ok-clause-named
+returns-in-Ok-clause-named g c = still_done c.look_at.result _ (λ (done : Done). done.oid ≡ c.args.oid.now) refl c.look_at.ensures.same
+
+pub returns-in-Err-clause-rooms : goal.returns-in-Err-clause-rooms
+returns-in-Err-clause-rooms g c = inl refl
