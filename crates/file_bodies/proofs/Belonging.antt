@@ -1,16 +1,18 @@
 -- Which file a page belongs to.
 use Rattle.std.proofs.Common.{◌≡◌, ℕ, List, Option, Some, None, sym, subst, ◌∙◌}
-use Rattle.std.specs.Prelude.{Contains}
+use Rattle.std.specs.Prelude.{Contains, slice_index_or, MatchOption}
+use Rattle.std.specs.Option.{option_map}
 use Rattle.ex_base.specs.declared.ground.Ground as ground
 use Rattle.ex_base.specs.Ports.{Keeps}
 use Rattle.slotted_pages.specs.Reads.{page_on, IsPage}
+use Rattle.slotted_pages.specs.Edits.{slots_of}
 use Rattle.ex_base.specs.declared.names.Index.{Index}
 use Rattle.file_index.specs.Index.{IsFilesPage}
 use Rattle.ex_base.specs.declared.names.Place.{Place}
 use Rattle.ex_base.proofs.Counts.{contains_times}
 use Rattle.file_bodies.specs.Bodies.{pages_in, bodies_of}
 use Rattle.file_bodies.specs.Places.{FirstFrom}
-use Rattle.file_bodies.specs.Files.{index_at, HasFile, HasFiles, HasFileOf, HasBody, IsOfFile}
+use Rattle.file_bodies.specs.Files.{index_at, HasFile, HasFiles, HasFileOf, HasBody, HasSomeBody, IsOfFile}
 use Rattle.file_bodies.proofs.Moving.{lies, kept_file}
 use Rattle.file_bodies.proofs.Slots.{page_of}
 
@@ -21,6 +23,25 @@ module _ {S : Type 0} (g : ground.Ghosts S) where
 
   pub of_page : (a : S) (page : ℕ) → IsOfFile g a page → IsPage (g.image a page)
   of_page a page of = (page_of g a of.index page of.file (contains_times page (pages_in (g.image a) of.index) of.named)).spelled
+
+  -- the body that is read on a page of a file is that of the file, and none stands where none is read
+  pub found_body : {X : Type 0} (f : X → List ℕ) (r : Option X) (a : S) (place : Place) (bytes : List ℕ) → IsOfFile g a place.page.0
+      → bytes ≡ g.image a place.page.0
+      → (IsPage bytes → option_map f r ≡ slice_index_or (slots_of bytes) place.slot None)
+      → MatchOption r ((body : List ℕ) → HasSomeBody g a place body → ⊥) (λ x. HasSomeBody g a place (f x))
+  found_body f None a place bytes of read is = λ body has.
+      let none : None ≡ slice_index_or (slots_of (g.image a place.page.0)) place.slot None =
+      subst (λ (t : List ℕ). None ≡ slice_index_or (slots_of t) place.slot None) read (is (subst IsPage (sym read) (of_page a place.page.0 of))) in
+      absurd (let e : None ≡ Some body = none ∙ has.has.stands in cc)
+  found_body f (Some x) a place bytes of read is = record {
+    index = of.index;
+    has = record {
+      file = of.file;
+      named = of.named;
+      stands = sym (subst (λ (t : List ℕ). Some (f x) ≡ slice_index_or (slots_of t) place.slot None) read
+          (is (subst IsPage (sym read) (of_page a place.page.0 of))));
+    };
+  }
 
   -- the number on the page is that of its file
   pub of_number : (a : S) (page file_no : ℕ) (of : IsOfFile g a page) → (page_on (g.image a page)).file_no ≡ file_no → index_at (g.image a) file_no ≡ Some of.index

@@ -12,11 +12,12 @@ use Rattle.ex_base.specs.Ports.{Keeps}
 use Rattle.slotted_pages.specs.Reads.{page_on, IsPage}
 use Rattle.ex_base.specs.declared.names.Index.{Index}
 use Rattle.file_index.specs.Index.{IsFilesPage}
-use Rattle.ex_base.specs.Seen.{file_page_seen, nothing_seen, record_seen}
+use Rattle.ex_base.specs.Seen.{file_page_seen, nothing_seen, record_seen, catalog_seen}
 use Rattle.file_index.specs.Damage.{every_page, HasWay, IsIndexFault, found_in}
-use Rattle.object_files.specs.Edits.{IsCatalogPage}
-use Rattle.file_bodies.specs.Files.{index_at, IsPageOf}
-use Rattle.file_bodies.specs.Damage.{misplaced, not_held, misspelled, foreign, on_the_way, lost_way, found_page, ends, here, goes_on, HasRecords, HasRecordAt, IsFilePageFault, IsPlaceFault, ListsFile, IsBelongingFault, IsLook, IsLookFault}
+use Rattle.object_files.specs.Edits.{IsCatalogPage, entries_on}
+use Rattle.file_bodies.specs.Files.{index_at, IsPageOf, index_in}
+use Rattle.file_bodies.specs.Damage.{misplaced, not_held, misspelled, foreign, on_the_way, lost_way, found_page, ends, here, goes_on, HasRecords, HasRecordAt, IsFilePageFault, IsPlaceFault, ListsFile, IsBelonging, IsBelongingFault, IsLook, IsLookFault, IsFileFault}
+use Rattle.ex_base.proofs.Options.{some_apart}
 
 -- ---- one page
 
@@ -34,6 +35,11 @@ blames_foreign g held bytes file_no page want got area has differ want_is got_is
 
 pub blames_place : (g : Geometry) (held : ℕ → Bool) (bytes : List ℕ) (place : Place) (fault : PortFault) → (HasRecordAt g held bytes place → ⊥) → fault ≡ Damaged place.page (record_seen place.slot) nothing_seen → IsPlaceFault g held bytes place fault
 blames_place g held bytes place fault never is = subst (IsPlaceFault g held bytes place) (sym is) (refl, refl, refl, never)
+
+pub blames_lists : (bytes : List ℕ) (file_no : ℕ) (fault : PortFault) → (IsCatalogPage bytes → index_in file_no (entries_on bytes) ≡ None)
+    → fault ≡ Damaged (record { 0 = catalog_no }) catalog_seen nothing_seen → IsFileFault bytes file_no fault
+blames_lists bytes file_no fault none is =
+    subst (IsFileFault bytes file_no) (sym is) (refl, refl, refl, λ index lists. some_apart index (sym lists.entry ∙ none lists.whole))
 
 -- ---- what a later state that keeps the pages tells
 
@@ -81,3 +87,30 @@ belonging_fault g a b c page file_no index o fault kept then_kept of some found 
     carried g a b (λ y u. ListsFile (u catalog_no) file_no index) kept (λ t. record { whole = whole t; entry = sym (found t) ∙ some }) told in
     on_the_way index (of told).0 (subst (λ (n : ℕ). ListsFile (g.image a catalog_no) n index) (sym (of told).1) lists)
     (carried g a b (λ y u. IsIndexFault y every_page u index page fault) kept (carried g b c (λ y u. IsIndexFault y every_page u index page fault) then_kept h) told)
+
+-- the way to a page that is named, and the file that the catalog lacks
+pub belonging_way : {S : Type 0} (g : ground.Ghosts S) (a b c : S) (page file_no : ℕ) (index : Index) (o : Option Index) → Keeps g a b → Keeps g b c
+    → (g.tells a → IsPage (g.image a page) × ((page_on (g.image a page)).file_no ≡ file_no))
+    → o ≡ Some index → (g.tells b → o ≡ index_at (g.image b) file_no) → (g.tells b → IsCatalogPage (g.image b catalog_no))
+    → (g.tells c → HasWay (g.geometry c) (g.image c) index page) → g.tells a → IsBelonging (g.geometry a) (g.image a) page
+belonging_way g a b c page file_no index o kept then_kept of some found whole way told = λ area spelled.
+    let at : index_at (g.image a) file_no ≡ Some index = carried g a b (λ y u. index_at u file_no ≡ Some index) kept (λ t. sym (found t) ∙ some) told in
+    let here : HasWay (g.geometry a) (g.image a) index page = carried g a b (λ y u. HasWay y u index page) kept
+    (carried g b c (λ y u. HasWay y u index page) then_kept way) told in (
+      carried g a b (λ y u. IsCatalogPage (u catalog_no)) kept whole told,
+      λ other lists.
+          let e : Some index ≡ Some other = sym at ∙ subst (λ (n : ℕ). index_at (g.image a) n ≡ Some other) (of told).1 lists.entry in
+          let same : index ≡ other = cc in
+          subst (λ (i : Index). HasWay (g.geometry a) (g.image a) i page) same here,
+    )
+
+pub belonging_lacks : {S : Type 0} (g : ground.Ghosts S) (a b : S) (page file_no : ℕ) (o : Option Index) → Keeps g a b
+    → (g.tells a → IsPage (g.image a page) × ((page_on (g.image a page)).file_no ≡ file_no))
+    → o ≡ None → (g.tells b → o ≡ index_at (g.image b) file_no) → (g.tells b → IsCatalogPage (g.image b catalog_no)) → g.tells a
+    → IsBelonging (g.geometry a) (g.image a) page
+belonging_lacks g a b page file_no o kept of none found whole told = λ area spelled.
+    let at : index_at (g.image a) file_no ≡ None = carried g a b (λ y u. index_at u file_no ≡ None) kept (λ t. sym (found t) ∙ none) told in (
+      carried g a b (λ y u. IsCatalogPage (u catalog_no)) kept whole told,
+      λ other lists.
+          absurd (let e : None ≡ Some other = sym at ∙ subst (λ (n : ℕ). index_at (g.image a) n ≡ Some other) (of told).1 lists.entry in cc),
+    )

@@ -13,13 +13,14 @@ use Rattle.ex_base.proofs.Lists.{drop_item}
 use Rattle.ex_base.proofs.Members.{contains_later}
 use Rattle.ex_base.specs.declared.names.Index.{Index}
 use Rattle.file_index.specs.Index.{HasRoot}
-use Rattle.file_index.proofs.Counts.{changes_same}
+use Rattle.file_index.proofs.Counts.{changes_same, put_changes}
 use Rattle.object_files.specs.Catalog.{FileEntry, Catalog, CatalogOf, IsEntry, number_of}
 use Rattle.object_files.specs.Reads.{catalog_on}
 use Rattle.object_files.specs.Edits.{IsCatalogPage, entries_on, indexed, with_entries}
 use Rattle.object_files.proofs.CatalogLaws.{catalog_read}
-use Rattle.file_bodies.specs.Files.{index_in, index_at}
+use Rattle.file_bodies.specs.Files.{index_in, index_at, with_index}
 use Rattle.file_bodies.specs.Indexes.{IsUsable, SetsIndex}
+use Rattle.ex_base.specs.Ports.{PutsImage}
 
 pub is_catalog : (page : List ℕ) (c : Catalog) → CatalogOf page c → IsCatalogPage page
 is_catalog page c h = subst (CatalogOf page) (sym (catalog_read page c h)) h
@@ -157,3 +158,13 @@ same_sets g s index whole at =
       catalog = subst (λ (es : List FileEntry). CatalogOf (g.image s catalog_no) (with_entries (catalog_on (g.image s catalog_no)) es)) (sym same) whole;
       changes = changes_same g s (catalog_no ∷ []);
     }
+
+-- the catalog's page is put, of what was read with one entry changed
+pub put_sets : {S : Type 0} (g : ground.Ghosts S) (a b : S) (index : Index) (bytes content : List ℕ) → PutsImage g a b catalog_no content → g.leads a b
+    → g.tells a → bytes ≡ g.image a catalog_no
+    → CatalogOf content (with_index (catalog_on bytes) index) → SetsIndex g a b index
+put_sets g a b index bytes content put leads told read spelled = record {
+  catalog = subst (λ (t : List ℕ). CatalogOf t (with_index (catalog_on (g.image a catalog_no)) index)) (sym (put.image told))
+      (subst (λ (t : List ℕ). CatalogOf content (with_index (catalog_on t) index)) read spelled);
+  changes = put_changes g a b catalog_no content put leads;
+}

@@ -12,3 +12,8 @@ pub mod Fresh
 pub mod Placed
 pub mod Leaving
 pub mod Ordered
+pub mod OwnFaults
+pub mod LaterSizes
+pub mod PagesGone
+pub mod TouchedPages
+pub mod PageNumbers

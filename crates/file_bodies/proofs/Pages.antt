@@ -1,6 +1,6 @@
 -- What is read on one page of a file.
 use Rattle.std.proofs.Common.{◌≡◌, ◌≢◌, ◌≤◌, ◌<◌, ℕ, zero, suc, List, [], ◌∷◌, length, Option, Some, None, refl, sym, ap, subst, ◌∙◌, arith}
-use Rattle.std.specs.Prelude.{slice_index_or, IsSome, IfSome}
+use Rattle.std.specs.Prelude.{slice_index_or, IsSome, IfSome, IfNone}
 use Rattle.std.specs.List.{AllByRecursion}
 use Rattle.std.specs.Option.{option_map}
 use Rattle.slotted_pages.specs.FilePage.{Slot, FilePage, SlotsOf, IsSlot, body_of}
@@ -76,3 +76,12 @@ first_is slots from slot o reached live is vacant = record { reached = reached; 
 pub mapped : {A B : Type 0} (f : A → B) (o : Option A) (x : Option B) → option_map f o ≡ x → IfSome o (λ a. x ≡ Some (f a))
 mapped f None x e = tt
 mapped f (Some a) x e = sym e
+
+-- what follows where there is none
+pub none_weaker : {A P Q : Type 0} (o : Option A) → (P → Q) → IfNone o P → IfNone o Q
+none_weaker None f p = f p
+none_weaker (Some x) f p = tt
+
+-- the slots that are viewed are those of the page
+pub viewed_slots : (bytes page : List ℕ) (v : Viewed) → v ≡ viewed_on bytes → bytes ≡ page → v.page.slots ≡ slots_of page
+viewed_slots bytes page v is read = ap (λ (w : Viewed). w.page.slots) is ∙ ap slots_of read

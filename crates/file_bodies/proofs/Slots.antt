@@ -1,13 +1,13 @@
 -- One slot of a page of a file is changed, and the page is written.
-use Rattle.std.proofs.Common.{◌≡◌, ◌≤◌, ◌<◌, ℕ, zero, suc, true, List, [], ◌∷◌, length, Some, None, refl, sym, ap, subst, arith}
-use Rattle.std.specs.Prelude.{slice_index_or, Contains}
+use Rattle.std.proofs.Common.{◌≡◌, ◌≤◌, ◌<◌, ℕ, zero, suc, true, List, [], ◌∷◌, length, Some, None, refl, sym, ap, subst, arith, ◌+◌}
+use Rattle.std.specs.Prelude.{slice_index_or, Contains, ◌↔◌, Bool, IsTrue}
 use Rattle.ex_base.specs.declared.ground.Ground as ground
 use Rattle.ex_base.specs.declared.names.Place.{Place}
 use Rattle.ex_base.specs.Ports.{times, Keeps, PutsImage}
 use Rattle.ex_base.proofs.Counts.{contains_times}
-use Rattle.slotted_pages.specs.FilePage.{Slot, SlotsOf}
+use Rattle.slotted_pages.specs.FilePage.{Slot, SlotsOf, room_of, body_of}
 use Rattle.slotted_pages.specs.Reads.{page_on, IsPage}
-use Rattle.slotted_pages.specs.Edits.{slots_of, with_slot, with_slots, trimmed}
+use Rattle.slotted_pages.specs.Edits.{slots_of, with_slot, with_slots, trimmed, body_in}
 use Rattle.slotted_pages.proofs.EditLaws.{long_enough}
 use Rattle.ex_base.specs.declared.names.Index.{Index}
 use Rattle.file_index.specs.Index.{IsFilesPage}
@@ -52,6 +52,16 @@ module _ {S : Type 0} (g : ground.Ghosts S) where
       let at : 1 ≤ times place.page.0 (pages_in (g.image a) index) = contains_times place.page.0 (pages_in (g.image a) index) has.named in
       let page = (page_of a index place.page.0 has.file at).spelled in
       never (lies g a index place.page.0 has.file at) (page_held g a index place.page.0 has.file at) page (stands_live (g.image a place.page.0) place.slot body page has.stands)
+
+  -- whether a body fits in the place of another, as it is read on the page
+  pub fits_read : (a : S) (index : Index) (place : Place) (was body out : List ℕ) (done : Bool) → HasBody g a index place was → out ≡ g.image a place.page.0
+      → length out ≡ (g.geometry a).page_size
+      → IsTrue done ↔ (length body ≤ length (body_in out place.slot) + room_of (length out) (slots_of out))
+      → IsTrue done ↔ (length body ≤ length was + room_of (g.geometry a).page_size (slots_of (g.image a place.page.0)))
+  fits_read a index place was body out done has read size fits =
+      subst (λ (n : ℕ). IsTrue done ↔ (length body ≤ length was + room_of n (slots_of (g.image a place.page.0)))) size
+      (subst (λ (w : List ℕ). IsTrue done ↔ (length body ≤ length w + room_of (length out) (slots_of (g.image a place.page.0)))) (ap body_of has.stands)
+      (subst (λ (t : List ℕ). IsTrue done ↔ (length body ≤ length (body_in t place.slot) + room_of (length out) (slots_of t))) read fits))
 
   -- a body is put in the place of another
   pub body_changed : (a b c : S) (index : Index) (place : Place) (was body out content : List ℕ) → HasBody g a index place was → Keeps g a b → g.tells a → out ≡ g.image a place.page.0

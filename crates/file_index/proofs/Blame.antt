@@ -1,5 +1,5 @@
 -- Which fault tells what is read of an index page, and what such a fault is on the way to a key.
-use Rattle.std.proofs.Common.{◌≡◌, ◌≢◌, ◌-◌, ◌≤◌, ◌⊎◌, inl, inr, ℕ, zero, suc, Bool, false, List, [], ◌∷◌, length, Option, Some, refl, sym, ap, subst, ◌∙◌, sub-one}
+use Rattle.std.proofs.Common.{◌≡◌, ◌≢◌, ◌-◌, ◌≤◌, ◌⊎◌, inl, inr, ℕ, zero, suc, Bool, false, List, [], ◌∷◌, length, Option, Some, None, refl, sym, ap, subst, ◌∙◌, sub-one}
 use Rattle.std.specs.Prelude.{slice_get}
 use Rattle.ex_base.specs.declared.faults.Seen.{Seen}
 use Rattle.ex_base.specs.declared.faults.PortFault.{PortFault}
@@ -12,7 +12,8 @@ use Rattle.file_index.proofs.PageLaws.{spelled_reads}
 use Rattle.file_index.specs.Index.{IsFilesPage, least_entries, seen, key_seen}
 use Rattle.file_index.specs.Nodes.{first_key}
 use Rattle.ex_base.specs.Seen.{nothing_seen}
-use Rattle.file_index.specs.Damage.{shown_on, elsewhere, lacking, outside, other, IsOfIndex, IsPageFault, IsNamedAt, IsWay, IsWayFault, IsWayUnder, IsFaultUnder}
+use Rattle.ex_base.specs.Ports.{IsDamage}
+use Rattle.file_index.specs.Damage.{shown_on, elsewhere, lacking, outside, other, IsOfIndex, IsPageFault, IsNamedAt, IsWay, IsWayFault, IsWayUnder, IsFaultUnder, IsFaultFrom, child_in}
 
 -- ---- one page
 
@@ -78,3 +79,27 @@ pub way_on : (g : Geometry) (image : ℕ → List ℕ) (file_no key level : ℕ)
     → IsWayUnder g image file_no key (level - 1) (entries_on (image page)) → IsWay g image file_no key level least page
 way_on g image file_no key zero least page above at h = absurd (above refl)
 way_on g image file_no key (suc level) least page above at h = (at, rw sub-one at h)
+
+-- ---- a fault that isn't that of a damaged page tells of none
+
+pub other_fault : (g : Geometry) (held : ℕ → Bool) (bytes : List ℕ) (level file_no : ℕ) (least : Option ℕ) (page : ℕ) (fault : PortFault)
+    → (IsDamage fault → ⊥) → IsPageFault g held bytes level file_no least page fault
+other_fault g held bytes level file_no least page Disk never = tt
+other_fault g held bytes level file_no least page Memory never = tt
+other_fault g held bytes level file_no least page (Damaged at want got) never = absurd (never tt)
+
+pub other_way : (g : Geometry) (held : ℕ → Bool) (image : ℕ → List ℕ) (file_no key level : ℕ) (least : Option ℕ) (page : ℕ) (fault : PortFault)
+    → (IsDamage fault → ⊥) → IsWayFault g held image file_no key level least page fault
+other_way g held image file_no key level least page Disk never = tt
+other_way g held image file_no key level least page Memory never = tt
+other_way g held image file_no key level least page (Damaged at want got) never = absurd (never tt)
+
+pub other_under : (g : Geometry) (held : ℕ → Bool) (image : ℕ → List ℕ) (file_no key level : ℕ) (entries : List Entry) (fault : PortFault)
+    → (IsDamage fault → ⊥) → IsFaultUnder g held image file_no key level entries fault
+other_under g held image file_no key level entries fault never = other_way g held image file_no key level (Some (child_in key entries).key)
+    (child_in key entries).page.0 fault never
+
+pub other_from : (g : Geometry) (held : ℕ → Bool) (image : ℕ → List ℕ) (file_no key level : ℕ) (root : Option PageNo) (fault : PortFault)
+    → (IsDamage fault → ⊥) → IsFaultFrom g held image file_no key level root fault
+other_from g held image file_no key level None fault never = never
+other_from g held image file_no key level (Some page) fault never = other_way g held image file_no key level None page.0 fault never

@@ -13,6 +13,11 @@ pub mod Closing
 pub mod Rewriting
 pub mod Placing
 pub mod Replacing
+pub mod Chains
+pub mod Halves
+pub mod Rooms
+pub mod Growing
+pub mod Pairs
 pub mod Parts
 pub mod Stepping
 pub mod Descending

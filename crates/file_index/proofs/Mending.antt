@@ -94,7 +94,8 @@ module _ {S : Type 0} (g : ground.Ghosts S) (a : S) (file_no m key : ℕ) where
       }
 
 -- the entry that a key leads to is that of the page with too few entries
-thin_is : (entries : List Entry) (at first : ℕ) (child : Entry) (pair : Pair) → first ≡ at - 1 → pair.thin_is_left ≡ (at == 0) → at < length entries → child ≡ slice_index_or entries at child
+pub thin_is : (entries : List Entry) (at first : ℕ) (child : Entry) (pair : Pair) → first ≡ at - 1 → pair.thin_is_left ≡ (at == 0) → at < length entries
+    → child ≡ slice_index_or entries at child
     → pair.left ≡ slice_index_or entries first pair.left → pair.right ≡ slice_index_or entries (first + 1) pair.right → thin_of pair ≡ child
 thin_is entries zero first child pair is thin lt item left right =
     let s = split_at entries 0 lt in

@@ -1,5 +1,5 @@
 -- What a page that is what names it reads as.
-use Rattle.std.proofs.Common.{◌≡◌, ℕ, Bool, true, false, eqb, eq-eqb, List, [], ◌∷◌, Option, Some, None, refl, ap, ◌∙◌}
+use Rattle.std.proofs.Common.{◌≡◌, ℕ, Bool, true, false, eqb, eq-eqb, List, [], ◌∷◌, Option, Some, None, length, refl, sym, ap, subst, ◌∙◌}
 use Rattle.std.specs.Prelude.{slice_get, ◌&&◌, not}
 use Rattle.ex_base.specs.declared.faults.Seen.{Seen}
 use Rattle.file_index.specs.declared.Entry.{Entry}
@@ -26,3 +26,14 @@ pub seen_differs : (r : Bool) (a b : Seen) → r ≡ not (eqb a.kind b.kind && (
 seen_differs r a b e h same =
     not_all (eqb a.kind b.kind) (eqb a.level b.level) (eqb a.total b.total) r
     (eq-eqb a.kind b.kind (ap (λ (s : Seen). s.kind) same)) (eq-eqb a.level b.level (ap (λ (s : Seen). s.level) same)) (eq-eqb a.total b.total (ap (λ (s : Seen). s.total) same)) e h
+
+-- the bytes of a page that was read are its image
+pub named_of : (size : ℕ) (page image : List ℕ) (level file_no : ℕ) (least : Option ℕ) → length page ≡ size → page ≡ image
+    → IsNamed (length page) page level file_no least → IsNamed size image level file_no least
+named_of size page image level file_no least len is named = subst (λ (bytes : List ℕ). IsNamed size bytes level file_no least) is
+    (subst (λ (n : ℕ). IsNamed n page level file_no least) len named)
+
+pub named_as : (size : ℕ) (page image : List ℕ) (level file_no : ℕ) (least : Option ℕ) → length page ≡ size → page ≡ image
+    → IsNamed size image level file_no least → IsNamed (length page) page level file_no least
+named_as size page image level file_no least len is named = subst (λ (n : ℕ). IsNamed n page level file_no least) (sym len)
+    (subst (λ (bytes : List ℕ). IsNamed size bytes level file_no least) (sym is) named)

@@ -1,6 +1,6 @@
 -- An entry that one or two others stand for.
 use Rattle.std.proofs.Common.{◌≡◌, ◌≢◌, ◌≤◌, ◌<◌, ◌+◌, ℕ, Bool, true, not, eqb, List, [], ◌∷◌, ◌++◌, length, take, drop, Option, Some, None, false, refl, sym, ap, ◌∙◌, arith}
-use Rattle.std.proofs.lemmas.List.{length-append}
+use Rattle.std.proofs.lemmas.List.{length-append, length-take, length-drop}
 use Rattle.std.proofs.lemmas.Bool.{eqb-true}
 use Rattle.std.specs.Prelude.{slice_index_or, option_to_list, is_some}
 use Rattle.ex_base.specs.declared.names.PageNo.{PageNo}
@@ -21,6 +21,21 @@ replaced_more old new at first (Some e) lt is =
     let s = split_at old at lt in
     let n = length-append (take at old) (first ∷ e ∷ drop (at + 1) old) in
     (omega (arith, ap length is, n, s.front, s.back), omega (arith, ap length is, n, s.front, s.back))
+
+-- two entries that one or two others stand for
+pub replaced_pair : (old new : List Entry) (at : ℕ) (first : Entry) (second : Option Entry) → at + 1 < length old
+    → new ≡ take at old ++ ((first ∷ option_to_list second) ++ drop (at + 2) old)
+    → (length new ≤ length old) × (length old ≤ length new + 1)
+replaced_pair old new at first None lt is =
+    let n = length-append (take at old) (first ∷ drop (at + 2) old) in
+    let front = length-take at old in
+    let back = length-drop (at + 2) old in
+    (omega (arith, ap length is, n, front, back, lt), omega (arith, ap length is, n, front, back, lt))
+replaced_pair old new at first (Some e) lt is =
+    let n = length-append (take at old) (first ∷ e ∷ drop (at + 2) old) in
+    let front = length-take at old in
+    let back = length-drop (at + 2) old in
+    (omega (arith, ap length is, n, front, back, lt), omega (arith, ap length is, n, front, back, lt))
 
 -- an entry that stands for itself
 pub replaced_same : (old new : List Entry) (at : ℕ) (child first : Entry) (second : Option Entry) → at < length old → child ≡ slice_index_or old at child → new ≡ take at old ++ ((first ∷ option_to_list second) ++ drop (at + 1) old)

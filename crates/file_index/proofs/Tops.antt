@@ -1,5 +1,5 @@
 -- An index whose top page has entries that became others.
-use Rattle.std.proofs.Common.{◌≡◌, ◌≢◌, ◌≤◌, ◌+◌, ◌/◌, ℕ, zero, suc, true, false, nat_lt, List, [], ◌∷◌, ◌++◌, length, Option, Some, None, refl, sym, ap, subst, ◌∙◌, arith}
+use Rattle.std.proofs.Common.{◌≡◌, ◌≢◌, ◌≤◌, ◌+◌, ◌/◌, ℕ, zero, suc, true, List, [], ◌∷◌, ◌++◌, length, Option, Some, None, refl, sym, ap, subst, ◌∙◌, arith}
 use Rattle.ex_base.specs.declared.ground.Ground as ground
 use Rattle.ex_base.specs.declared.names.PageNo.{PageNo}
 use Rattle.ex_base.specs.declared.geometry.Geometry.{Geometry}
@@ -12,9 +12,9 @@ use Rattle.file_index.specs.Changes.{Changes, count_of}
 use Rattle.file_index.specs.Index.{IsFilesPage, IsNamed, IsUnder, HasLeast, Rises, keys_under, pages_under}
 use Rattle.file_index.specs.Nodes.{IsWritten, Stored, heads, first_key, leaves_of}
 use Rattle.file_index.specs.Edits.{pages_among, keys_among, IsRow, Becomes, HasIndex, EditsIndex, put_in}
-use Rattle.std.specs.Prelude.{if◌then◌else◌, slice_index_or}
+use Rattle.std.specs.Prelude.{slice_index_or}
 use Rattle.std.proofs.lemmas.List.{append-nil}
-use Rattle.file_index.proofs.Leaves.{two_leaves}
+use Rattle.file_index.proofs.Leaves.{two_leaves, leaves_two}
 use Rattle.file_index.proofs.Closing.{new_root, row_rises}
 use Rattle.file_index.proofs.Counts.{count_most, is_counted, count_is, changes_same, give_changes, changes_more, changes_trans}
 use Rattle.file_index.proofs.Picking.{rising_of}
@@ -134,12 +134,6 @@ module _ {S : Type 0} (g : ground.Ghosts S) (a : S) (before : Index) (root : Pag
             keys = keys ∙ here.keys;
             changes = changes_trans g a c d ((root.0 ∷ []) ++ pages_among (g.image a) m (entries_on (g.image a root.0))) ((root.0 ∷ []) ++ pages_among (g.image c) m (only ∷ [])) (pages_under (g.image d) m only.page.0) first second;
           })
-
-leaves_two : (key : ℕ) (beside : Entry) → length (leaves_of key beside) ≡ 2
-leaves_two key beside = elim (nat_lt key beside.key) as (λ t. length (if t then record { key = key; page = record { 0 = key } } ∷ beside ∷ [] else beside ∷ record { key = key; page = record { 0 = key } } ∷ []) ≡ 2) [
-  | true ↦ refl
-  | false ↦ refl
-]
 
 -- the first index page, over two pages of a file
 pub second_added : {S : Type 0} (g : ground.Ghosts S) (a c : S) (before : Index) (root page : PageNo) (key : ℕ) → before.root ≡ Some root → before.level ≡ 0 → root.0 ≢ key → HasIndex g a before → IsFilesPage (g.geometry a) key

@@ -1,11 +1,20 @@
-use Rattle.std.proofs.Common.{ℕ, length, subst, sym}
+use Rattle.std.proofs.Common.{ℕ, length, subst, sym, ap, ◌∙◌, ◌≤◌, Some, ◌≡◌, refl, arith}
 use Rattle.ex_base.specs.declared.names.Index.{Index}
 use Rattle.file_bodies.specs.Places.{NoRoom, PlacesBody, PutsBody}
 use Rattle.file_bodies.specs.Placing.{start_of}
 use Rattle.file_bodies.proofs.Belonging.{the_index, found_file}
 use Rattle.file_bodies.proofs.Placed.{kept_places, kept_puts, none_kept, room_serves}
-use Rattle.file_bodies.specs.Damage.{listed, IsPlacing, IsPlacingFault}
+use Rattle.file_bodies.specs.Damage.{listed, IsPlacing, IsPlacingFault, unlisted}
 use Rattle.file_bodies.proofs.Blame.{carried, carried_held}
+use Rattle.file_bodies.proofs.PagesGone.{kept_takes}
+use Rattle.file_bodies.proofs.LaterSizes.{fits_after}
+use Rattle.ex_base.specs.declared.names.Area.TheVariants.{Page, Segment}
+use Rattle.ex_base.specs.declared.names.Area.{Area}
+use Rattle.ex_base.proofs.Handed.{cause_after}
+use Rattle.file_bodies.proofs.TouchedPages.{free_since, most_since}
+use Rattle.file_bodies.specs.Touches.{body_pages}
+use Rattle.file_bodies.specs.Files.{index_at}
+use Rattle.file_bodies.proofs.PageNumbers.{short_body}
 use Rattle.file_bodies.proofs.placing.place_body.Goals as goal
 
 pub returns-in-Ok-place_from-clause-placed : goal.returns-in-Ok-place_from-clause-placed
@@ -51,3 +60,70 @@ returns-in-Ok-place_from-clause-way g c = λ told. record {
   holds = carried g.P.Ground c.args.pages.now c.index_of.new.pages (λ y u. IsPlacing y u c.in-Ok.index (start_of c.args.room.now (length c.args.body.now)) c.in-Ok-place_from.place.page) c.index_of.ensures.kept
       (λ told_b. subst (λ (n : ℕ). IsPlacing (g.P.Ground.geometry c.index_of.new.pages) (g.P.Ground.image c.index_of.new.pages) c.in-Ok.index n c.in-Ok-place_from.place.page) c.start-from.ensures (c.in-Ok-place_from.ensures.way told_b)) told;
 }
+
+pub place_from-requires-clause-fits : goal.place_from-requires-clause-fits
+place_from-requires-clause-fits g c = fits_after g.P.Ground _ _ c.index_of.ensures.kept.leads _ c.requires.fits
+
+pub returns-in-Ok-place_from-clause-leads : goal.returns-in-Ok-place_from-clause-leads
+returns-in-Ok-place_from-clause-leads g c = g.P.Ground.leads_trans _ _ _ c.index_of.ensures.kept.leads c.place_from.ensures.leads
+
+pub returns-in-Err-place_from-clause-leads : goal.returns-in-Err-place_from-clause-leads
+returns-in-Err-place_from-clause-leads g c = g.P.Ground.leads_trans _ _ _ c.index_of.ensures.kept.leads c.place_from.ensures.leads
+
+pub returns-in-Err-place_from-clause-cause : goal.returns-in-Err-place_from-clause-cause
+returns-in-Err-place_from-clause-cause g c =
+    cause_after g.P.Ground _ _ c.index_of.ensures.kept.leads c.place_from.new.pages c.in-Err-place_from.fault c.in-Err-place_from.ensures.cause
+
+pub place_from-requires-clause-ready : goal.place_from-requires-clause-ready
+place_from-requires-clause-ready g c = g.P.Ground.leads_ready _ _ c.index_of.ensures.kept.leads c.requires.ready
+
+pub returns-in-Ok-place_from-clause-free : goal.returns-in-Ok-place_from-clause-free
+returns-in-Ok-place_from-clause-free g c = free_since _ _ _ _ c.in-Ok-place_from.ensures.free (ap (λ (f : Area → ℕ). f Page) c.index_of.ensures.kept.free)
+
+pub returns-in-Ok-place_from-clause-leaves : goal.returns-in-Ok-place_from-clause-leaves
+returns-in-Ok-place_from-clause-leaves g c = c.in-Ok-place_from.ensures.leaves ∙ ap (λ (f : Area → ℕ). f Segment) c.index_of.ensures.kept.free
+
+pub returns-in-Err-clause-fault : goal.returns-in-Err-clause-fault
+returns-in-Err-clause-fault g c = λ told. unlisted (c.in-Err.ensures.fault told)
+
+pub returns-in-Ok-place_from-clause-takes : goal.returns-in-Ok-place_from-clause-takes
+returns-in-Ok-place_from-clause-takes g c =
+    kept_takes g.P.Ground c.args.pages.now c.index_of.new.pages c.place_from.new.pages c.index_of.ensures.kept c.in-Ok-place_from.ensures.takes
+
+pub place_from-requires-clause-free : goal.place_from-requires-clause-free
+place_from-requires-clause-free g c = subst (λ (f : Area → ℕ). body_pages ≤ f Page) (sym c.index_of.ensures.kept.free) c.requires.free
+
+pub returns-in-Ok-place_from-clause-touches : goal.returns-in-Ok-place_from-clause-touches
+returns-in-Ok-place_from-clause-touches g c = most_since _ _ _ _ c.in-Ok-place_from.ensures.touches c.index_of.ensures.kept.touched
+
+pub place_from-requires-clause-some : goal.place_from-requires-clause-some
+place_from-requires-clause-some g c = c.requires.some
+
+pub returns-in-Err-clause-cause : goal.returns-in-Err-clause-cause
+returns-in-Err-clause-cause g c = c.in-Err.ensures.cause
+
+pub returns-in-Err-clause-leads : goal.returns-in-Err-clause-leads
+returns-in-Err-clause-leads g c = c.index_of.ensures.kept.leads
+
+pub returns-in-Err-clause-sound : goal.returns-in-Err-clause-sound
+returns-in-Err-clause-sound g c = λ damage told index file number.
+    c.in-Err.ensures.sound damage told file.catalog.whole index (subst (λ (n : ℕ). index_at (g.P.Ground.image c.args.pages.now) n ≡ Some index) number
+    file.entry)
+
+pub returns-in-Err-place_from-clause-anywhere : goal.returns-in-Err-place_from-clause-anywhere
+returns-in-Err-place_from-clause-anywhere g c = tt
+
+pub returns-in-Err-place_from-clause-placed : goal.returns-in-Err-place_from-clause-placed
+returns-in-Err-place_from-clause-placed g c = tt
+
+pub returns-in-Err-place_from-clause-way : goal.returns-in-Err-place_from-clause-way
+returns-in-Err-place_from-clause-way g c = tt
+
+pub overflow_cast-room : goal.overflow_cast-room
+overflow_cast-room g c = omega (arith, short_body (g.P.Ground.geometry c.args.pages.now) (length c.args.body.now) c.requires.fits)
+
+pub place_from-requires-clause-usable : goal.place_from-requires-clause-usable
+place_from-requires-clause-usable g c = record { same_file = refl; level = c.in-Ok.ensures.usable.level; root = c.in-Ok.ensures.usable.root }
+
+pub returns-in-Err-place_from-clause-unplaced : goal.returns-in-Err-place_from-clause-unplaced
+returns-in-Err-place_from-clause-unplaced g c = refl

@@ -1,5 +1,5 @@
-use Rattle.std.proofs.Common.{subst, sym}
-use Rattle.std.proofs.lemmas.Result.{on_ok_weaker}
+use Rattle.std.proofs.Common.{subst, sym, List, ap, ℕ, ◌∙◌}
+use Rattle.std.proofs.lemmas.Result.{on_ok_weaker, IfErr-weaker}
 use Rattle.std.specs.Prelude.{Contains}
 use Rattle.ex_base.specs.declared.names.Index.{Index}
 use Rattle.file_index.specs.Edits.{take_out}
@@ -12,9 +12,19 @@ use Rattle.file_bodies.proofs.Leaving.{left, kept_leaves}
 use Rattle.ex_base.specs.declared.geometry.Geometry.{Geometry}
 use Rattle.ex_base.proofs.Counts.{contains_times}
 use Rattle.file_index.specs.Index.{HasPlacedRoot}
-use Rattle.file_index.specs.Damage.{IsRemovalFault}
-use Rattle.file_bodies.specs.Damage.{listed, removing, bad_root}
-use Rattle.file_bodies.proofs.Blame.{carried_held}
+use Rattle.file_index.specs.Damage.{IsRemovalFault, HasWay}
+use Rattle.file_bodies.specs.Damage.{listed, removing, bad_root, IsFileFault, lost_entry, unlisted}
+use Rattle.file_bodies.proofs.Blame.{carried_held, carried}
+use Rattle.ex_base.proofs.Handed.{cause_after, cause_of}
+use Rattle.file_bodies.proofs.PagesGone.{gave_gives, gave_pages, gave_segments}
+use Rattle.file_index.proofs.LaterStates.{page_after}
+use Rattle.file_bodies.proofs.LaterSizes.{size_after}
+use Rattle.ex_base.specs.Area.{catalog_no}
+use Rattle.file_bodies.proofs.OwnFaults.{own_file}
+use Rattle.ex_base.proofs.Results.{on_ok_from}
+use Rattle.file_bodies.proofs.TouchedPages.{level_lower, touched_old, free_left}
+use Rattle.ex_base.specs.declared.names.Area.TheVariants.{Page, Segment}
+use Rattle.ex_base.specs.declared.names.Area.{Area}
 use Rattle.file_bodies.proofs.removing.drop_page.Goals as goal
 
 pub returns-in-Err-remove-clause-sound : goal.returns-in-Err-remove-clause-sound
@@ -80,3 +90,136 @@ returns-then-not-has_placed_root-clause-fault g c = λ told.
 
 pub returns-then-not-has_placed_root-clause-cause : goal.returns-then-not-has_placed_root-clause-cause
 returns-then-not-has_placed_root-clause-cause g c = c.no_root.ensures.cause _ _
+
+pub returns-clause-leads : goal.returns-clause-leads
+returns-clause-leads g c =
+    g.P.Ground.leads_trans _ _ _ c.index_of.ensures.kept.leads
+    (g.P.Ground.leads_trans _ _ _ c.remove.ensures.leads (g.P.Ground.leads_trans _ _ _ c.change_index.ensures.leads c.give_page.ensures.leads))
+
+pub returns-in-Err-change_index-clause-leads : goal.returns-in-Err-change_index-clause-leads
+returns-in-Err-change_index-clause-leads g c =
+    g.P.Ground.leads_trans _ _ _ c.index_of.ensures.kept.leads (g.P.Ground.leads_trans _ _ _ c.remove.ensures.leads c.change_index.ensures.leads)
+
+pub returns-then-not-has_placed_root-clause-leads : goal.returns-then-not-has_placed_root-clause-leads
+returns-then-not-has_placed_root-clause-leads g c = g.P.Ground.leads_trans _ _ _ c.index_of.ensures.kept.leads c.remove.ensures.leads
+
+pub returns-in-Err-remove-clause-leads : goal.returns-in-Err-remove-clause-leads
+returns-in-Err-remove-clause-leads g c = g.P.Ground.leads_trans _ _ _ c.index_of.ensures.kept.leads c.remove.ensures.leads
+
+pub give_page-requires-clause-ready : goal.give_page-requires-clause-ready
+give_page-requires-clause-ready g c =
+    g.P.Ground.leads_ready _ _
+    (g.P.Ground.leads_trans _ _ _ c.index_of.ensures.kept.leads (g.P.Ground.leads_trans _ _ _ c.remove.ensures.leads c.change_index.ensures.leads))
+    c.requires.ready
+
+pub change_index-requires-clause-ready : goal.change_index-requires-clause-ready
+change_index-requires-clause-ready g c =
+    g.P.Ground.leads_ready _ _ (g.P.Ground.leads_trans _ _ _ c.index_of.ensures.kept.leads c.remove.ensures.leads) c.requires.ready
+
+pub remove-requires-clause-ready : goal.remove-requires-clause-ready
+remove-requires-clause-ready g c = g.P.Ground.leads_ready _ _ c.index_of.ensures.kept.leads c.requires.ready
+
+pub has_placed_root-requires : goal.has_placed_root-requires
+has_placed_root-requires g c = g.P.Ground.leads_ready _ _ (g.P.Ground.leads_trans _ _ _ c.index_of.ensures.kept.leads c.remove.ensures.leads) c.requires.ready
+
+pub give_page-requires-clause-page : goal.give_page-requires-clause-page
+give_page-requires-clause-page g c =
+    (page_after g.P.Ground _ _ (g.P.Ground.leads_trans _ _ _ c.index_of.ensures.kept.leads
+    (g.P.Ground.leads_trans _ _ _ c.remove.ensures.leads c.change_index.ensures.leads)) _ c.requires.page).0
+
+pub give_page-requires-clause-other : goal.give_page-requires-clause-other
+give_page-requires-clause-other g c = c.requires.page.1
+
+pub change_index-requires-clause-buffer : goal.change_index-requires-clause-buffer
+change_index-requires-clause-buffer g c =
+    size_after g.P.Ground _ _ (g.P.Ground.leads_trans _ _ _ c.index_of.ensures.kept.leads c.remove.ensures.leads) _ c.requires.buffer
+
+pub change_index-requires-clause-usable : goal.change_index-requires-clause-usable
+change_index-requires-clause-usable g c = record {
+  same_file = c.in-Ok-remove.ensures.shrinks.same_file;
+  level = level_lower _ _ c.in-Ok-remove.ensures.shrinks.no_more c.in-Ok.ensures.usable.level;
+  root = c.in-Ok-remove.ensures.shrinks.root;
+}
+
+pub change_index-requires-clause-placed : goal.change_index-requires-clause-placed
+change_index-requires-clause-placed g c = c.has_placed_root.ensures.placed c.if-not-has_placed_root.false
+
+pub returns-clause-way : goal.returns-clause-way
+returns-clause-way g c = on_ok_from c.give_page.result _ (λ x is told. record {
+  index = c.in-Ok.index;
+  lists = c.in-Ok.ensures.lists told;
+  holds = carried g.P.Ground c.args.pages.now c.index_of.new.pages (λ y u. HasWay y u c.in-Ok.index c.args.page.0) c.index_of.ensures.kept
+      c.in-Ok-remove.ensures.way told;
+})
+
+pub returns-in-Err-change_index-clause-fault : goal.returns-in-Err-change_index-clause-fault
+returns-in-Err-change_index-clause-fault g c = λ told.
+    let kept = c.index_of.ensures.kept in
+    let told_c = g.P.Ground.leads_told _ _ (g.P.Ground.leads_trans _ _ _ kept.leads c.remove.ensures.leads) told in
+    listed c.in-Ok.index (c.in-Ok.ensures.lists told)
+    (lost_entry (subst (λ (t : List ℕ). IsFileFault t c.in-Ok.index.file_no c.in-Err-change_index.fault)
+    (c.in-Ok-remove.ensures.catalog ∙ ap (λ (f : ℕ → List ℕ). f catalog_no) kept.images) (c.in-Err-change_index.ensures.fault told_c)))
+
+pub returns-clause-sound : goal.returns-clause-sound
+returns-clause-sound g c = IfErr-weaker c.give_page.result _ _ (λ fault never damage told index file number. never damage) c.give_page.ensures.no_damage
+
+pub returns-clause-fault : goal.returns-clause-fault
+returns-clause-fault g c = IfErr-weaker c.give_page.result _ _ (λ fault never told. unlisted (own_file _ _ fault never)) c.give_page.ensures.no_damage
+
+pub returns-clause-cause : goal.returns-clause-cause
+returns-clause-cause g c =
+    cause_of g.P.Ground _ _
+    (g.P.Ground.leads_trans _ _ _ c.index_of.ensures.kept.leads (g.P.Ground.leads_trans _ _ _ c.remove.ensures.leads c.change_index.ensures.leads))
+    c.give_page.new.self c.give_page.result c.give_page.ensures.cause
+
+pub returns-in-Err-change_index-clause-cause : goal.returns-in-Err-change_index-clause-cause
+returns-in-Err-change_index-clause-cause g c =
+    cause_after g.P.Ground _ _ (g.P.Ground.leads_trans _ _ _ c.index_of.ensures.kept.leads c.remove.ensures.leads) c.change_index.new.pages
+    c.in-Err-change_index.fault c.in-Err-change_index.ensures.cause
+
+pub returns-in-Err-remove-clause-cause : goal.returns-in-Err-remove-clause-cause
+returns-in-Err-remove-clause-cause g c =
+    cause_after g.P.Ground _ _ c.index_of.ensures.kept.leads c.remove.new.pages c.in-Err-remove.fault c.in-Err-remove.ensures.cause
+
+pub returns-clause-gives : goal.returns-clause-gives
+returns-clause-gives g c = on_ok_weaker c.give_page.result (λ given.
+    gave_gives g.P.Ground c.args.pages.now c.index_of.new.pages c.remove.new.pages c.change_index.new.pages c.give_page.new.self c.args.page.0
+    c.index_of.ensures.kept c.in-Ok-remove.ensures.gives
+    c.in-Ok-change_index.ensures.held.0 c.in-Ok-change_index.ensures.held.1 given c.requires.held) c.give_page.ensures.given
+
+pub returns-clause-touches : goal.returns-clause-touches
+returns-clause-touches g c =
+    on_ok_from c.give_page.result _
+    (λ x is. touched_old _ _ _ _ _ c.index_of.ensures.kept.touched c.in-Ok-remove.ensures.touches c.in-Ok-change_index.ensures.touches
+    c.give_page.ensures.touched)
+
+pub returns-in-Err-clause-fault : goal.returns-in-Err-clause-fault
+returns-in-Err-clause-fault g c = λ told. unlisted (c.in-Err.ensures.fault told)
+
+pub returns-clause-segments : goal.returns-clause-segments
+returns-clause-segments g c = on_ok_weaker c.give_page.result (λ given. gave_segments g.P.Ground _ _ c.args.page.0 given _
+    (ap (λ (f : Area → ℕ). f Segment) c.in-Ok-change_index.ensures.free ∙ c.in-Ok-remove.ensures.leaves ∙ ap (λ (f : Area → ℕ). f Segment)
+    c.index_of.ensures.kept.free)) c.give_page.ensures.given
+
+pub returns-clause-free : goal.returns-clause-free
+returns-clause-free g c = on_ok_weaker c.give_page.result (λ given. gave_pages g.P.Ground _ _ c.args.page.0 given _
+    (free_left _ _ _ _ (ap (λ (f : Area → ℕ). f Page) c.index_of.ensures.kept.free) c.in-Ok-remove.ensures.free
+    (ap (λ (f : Area → ℕ). f Page) c.in-Ok-change_index.ensures.free))) c.give_page.ensures.given
+
+pub returns-in-Err-clause-cause : goal.returns-in-Err-clause-cause
+returns-in-Err-clause-cause g c = c.in-Err.ensures.cause
+
+pub returns-in-Err-clause-leads : goal.returns-in-Err-clause-leads
+returns-in-Err-clause-leads g c = c.index_of.ensures.kept.leads
+
+pub remove-requires-clause-root : goal.remove-requires-clause-root
+remove-requires-clause-root g c = c.in-Ok.ensures.usable.root
+
+pub remove-requires-clause-level : goal.remove-requires-clause-level
+remove-requires-clause-level g c = c.in-Ok.ensures.usable.level
+
+pub returns-in-Err-change_index-clause-leaves : goal.returns-in-Err-change_index-clause-leaves
+returns-in-Err-change_index-clause-leaves g c = tt
+
+pub returns-in-Err-change_index-clause-way : goal.returns-in-Err-change_index-clause-way
+returns-in-Err-change_index-clause-way g c = tt

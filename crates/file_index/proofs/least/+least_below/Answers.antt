@@ -3,7 +3,7 @@ use Rattle.file_index.specs.Damage.{every_page}
 use Rattle.file_index.proofs.Blame.{way_here}
 use Rattle.file_index.proofs.Ways.{fault_down, way_down, found_down}
 use Rattle.ex_base.proofs.Handed.{cause_of}
-use Rattle.ex_base.proofs.Keeping.{keeps_on}
+use Rattle.ex_base.proofs.Keeping.{keeps_on, keeps_refl}
 use Rattle.file_index.proofs.least.+least_below.Goals as goal
 use Rattle.std.proofs.lemmas.Result.{IfErr-weaker, IfOk-weaker, on_ok_weaker}
 
@@ -45,3 +45,51 @@ returns-clause-kept g t c = keeps_on g.P.Ground _ _ _ c.step_at.ensures.kept c.l
 
 pub returns-clause-cause : goal.returns-clause-cause
 returns-clause-cause g t c = cause_of g.P.Ground _ _ c.step_at.ensures.kept.leads c.least_below.new.pages c.least_below.result c.least_below.ensures.cause
+
+pub returns-in-Err-clause-least : goal.returns-in-Err-clause-least
+returns-in-Err-clause-least g t c = tt
+
+pub returns-in-Err-clause-above : goal.returns-in-Err-clause-above
+returns-in-Err-clause-above g t c = tt
+
+pub returns-in-Err-clause-way : goal.returns-in-Err-clause-way
+returns-in-Err-clause-way g t c = tt
+
+pub returns-in-Err-clause-found : goal.returns-in-Err-clause-found
+returns-in-Err-clause-found g t c = tt
+
+pub returns-else-named-key-clause-sound : goal.returns-else-named-key-clause-sound
+returns-else-named-key-clause-sound g t c = tt
+
+pub returns-else-named-key-clause-fault : goal.returns-else-named-key-clause-fault
+returns-else-named-key-clause-fault g t c = tt
+
+pub returns-else-named-key-clause-cause : goal.returns-else-named-key-clause-cause
+returns-else-named-key-clause-cause g t c = tt
+
+pub returns-else-named-key-clause-kept : goal.returns-else-named-key-clause-kept
+returns-else-named-key-clause-kept g t c = keeps_refl g.P.Ground _
+
+pub returns-then-named-key-clause-sound : goal.returns-then-named-key-clause-sound
+returns-then-named-key-clause-sound g t c = tt
+
+pub returns-then-named-key-clause-fault : goal.returns-then-named-key-clause-fault
+returns-then-named-key-clause-fault g t c = tt
+
+pub returns-then-named-key-clause-cause : goal.returns-then-named-key-clause-cause
+returns-then-named-key-clause-cause g t c = tt
+
+pub returns-then-named-key-clause-kept : goal.returns-then-named-key-clause-kept
+returns-then-named-key-clause-kept g t c = keeps_refl g.P.Ground _
+
+pub returns-in-Err-clause-cause : goal.returns-in-Err-clause-cause
+returns-in-Err-clause-cause g t c = c.in-Err.ensures.cause
+
+pub returns-in-Err-clause-kept : goal.returns-in-Err-clause-kept
+returns-in-Err-clause-kept g t c = c.step_at.ensures.kept
+
+pub returns-clause-above : goal.returns-clause-above
+returns-clause-above g t c = c.least_below.ensures.above
+
+pub step_at-requires : goal.step_at-requires
+step_at-requires g t c = c.requires.ready
