@@ -109,6 +109,11 @@ module _ {S : Type 0} (g : ground.Ghosts S) where
 
 -- ---- a tree of a row
 
+-- a spot lies in the row
+pub spot_inside : (growth : Growth) (pos size : ℕ) → IsSpot growth pos size → pos ≤ size
+spot_inside Insert pos size is = is
+spot_inside Append pos size is = omega (arith, is)
+
 pub spot_below : (growth : Growth) (row : List Part) (pos index at : ℕ) → IsSpot growth pos (row_size row) → IsAt row pos index at → IsSpot growth at (size_at row index)
 spot_below Insert row pos index at spot h = h.fits
 spot_below Append row pos index at spot h = omega (arith, h.start, h.fits, size-front row index h.inside, front_most row (index + 1))

@@ -26,7 +26,7 @@ take_again ys n = ap (λ k. take k ys) (length-take n ys) ∙ take_min n ys
 whole_part : (xs new : List ℕ) (k n : ℕ) → new ≡ take n (drop k xs) → new ≡ take (length new) (drop k xs)
 whole_part xs new k n is = is ∙ sym (take_again (drop k xs) n) ∙ ap (λ (ys : List ℕ). take (length ys) (drop k xs)) (sym is)
 
-new_len : (given new out : List ℕ) (before inside : ℕ) → new ≡ take (length out - before) (drop inside given) → length new ≡ min (length out - before) (length given - inside)
+pub new_len : (given new out : List ℕ) (before inside : ℕ) → new ≡ take (length out - before) (drop inside given) → length new ≡ min (length out - before) (length given - inside)
 new_len given new out before inside is = ap length is ∙ length-take (length out - before) (drop inside given) ∙ ap (min (length out - before)) (length-drop inside given)
 
 pub between_is : (old given new out p : List ℕ) (place at before inside from m : ℕ) → before ≡ min (length out) (place - at) → inside ≡ at - place → new ≡ take (length out - before) (drop inside given)

@@ -1,16 +1,19 @@
 -- Which fault tells what is read of a page.
-use Rattle.std.proofs.Common.{◌≡◌, ◌≢◌, ◌⊎◌, ℕ, zero, suc, ◌-◌, ◌<◌, ◌≤◌, List, [], ◌∷◌, ◌++◌, length, take, drop, get_or, refl, sym, subst, arith, inl, inr}
+use Rattle.std.proofs.Common.{◌≡◌, ◌≢◌, ◌⊎◌, ℕ, zero, suc, ◌-◌, ◌<◌, ◌≤◌, List, [], ◌∷◌, ◌++◌, length, take, drop, get_or, Result, Ok, Err, IfErr, refl, sym, ap, subst, arith, inl, inr}
 use Rattle.ex_base.specs.declared.faults.PortFault.{PortFault}
 use Rattle.ex_base.specs.declared.faults.PortFault.TheVariants.{Disk, Memory, Damaged}
 use Rattle.ex_base.specs.declared.ground.Ground as ground
-use Rattle.ex_base.specs.Ports.{IsDamage, Keeps}
+use Rattle.ex_base.specs.Ports.{IsDamage, Cause, Keeps}
+use Rattle.ex_base.specs.declared.faults.Seen.{Seen}
+use Rattle.ex_base.specs.declared.names.PageNo.{PageNo}
 use Rattle.ex_base.specs.declared.geometry.Geometry.{Geometry}
 use Rattle.trees.specs.Node.{pairs_on}
 use Rattle.trees.specs.Trees.{Units}
 use Rattle.trees.specs.declared.rows.Part.{Part}
 use Rattle.trees.specs.Rows.{parts_of, IsFilled, IsRowOn}
-use Rattle.ex_base.specs.Seen.{node_seen, nothing_seen}
-use Rattle.trees.specs.Damage.{outside, unfilled, NamesNode, IsNodeFault, IsWalkFault, AnyPart}
+use Rattle.ex_base.specs.Area.{NamesLeaf}
+use Rattle.ex_base.specs.Seen.{node_seen, leaf_seen, nothing_seen}
+use Rattle.trees.specs.Damage.{elsewhere, outside, unfilled, NamesNode, IsNodeFault, IsLeafFault, IsWalkFault, AnyPart}
 use Rattle.trees.specs.Reads.{NodeReads}
 use Rattle.trees.proofs.NodeLaws.{spelled_reads}
 use Rattle.trees.proofs.Parts.{length-parts}
@@ -21,6 +24,33 @@ pub breaks_rules : (geo : Geometry) (bytes : List ℕ) (level total least page :
     → fault ≡ Damaged (record { 0 = page }) (node_seen level total) nothing_seen → IsNodeFault geo bytes level total least page fault
 breaks_rules geo bytes level total least page fault broken is =
     subst (IsNodeFault geo bytes level total least page) (sym is) (refl, refl, unfilled broken refl)
+
+-- a page where no node may lie
+pub lies_elsewhere : (geo : Geometry) (bytes : List ℕ) (level total least page : ℕ) (fault : PortFault) → (NamesNode geo page → ⊥)
+    → fault ≡ Damaged (record { 0 = page }) (node_seen level total) nothing_seen → IsNodeFault geo bytes level total least page fault
+lies_elsewhere geo bytes level total least page fault out is =
+    subst (IsNodeFault geo bytes level total least page) (sym is) (refl, refl, elsewhere out refl)
+
+-- what is seen of a node isn't nothing
+pub seen_apart : (level total : ℕ) → node_seen level total ≢ nothing_seen
+seen_apart level total same = omega (arith, ap (λ (seen : Seen). seen.kind) same)
+
+pub none_cause : (before now : ℕ) (page : PageNo) (level total : ℕ) (fault : PortFault) → fault ≡ Damaged page (node_seen level total) nothing_seen → Cause before now fault
+none_cause before now page level total fault is = subst (Cause before now) (sym is) (seen_apart level total)
+
+-- a page that names no leaf
+pub no_leaf_here : (geo : Geometry) (page : PageNo) (fault : PortFault) → (NamesLeaf geo page.0 → ⊥) → fault ≡ Damaged page leaf_seen nothing_seen → IsLeafFault geo page fault
+no_leaf_here geo page fault out is = subst (IsLeafFault geo page) (sym is) (refl, refl, refl, out)
+
+pub leaf_cause : (before now : ℕ) (page : PageNo) (fault : PortFault) → fault ≡ Damaged page leaf_seen nothing_seen → Cause before now fault
+leaf_cause before now page fault is = subst (Cause before now) (sym is) (λ same. omega (arith, ap (λ (seen : Seen). seen.kind) same))
+
+-- a fault that tells of no damage is one of any leaf
+pub leaf_undamaged : {X : Type 0} (geo : Geometry) (page : PageNo) (r : Result X PortFault) → IfErr r (λ f. IsDamage f → ⊥) → IfErr r (IsLeafFault geo page)
+leaf_undamaged geo page (Ok x) h = tt
+leaf_undamaged geo page (Err Disk) h = tt
+leaf_undamaged geo page (Err Memory) h = tt
+leaf_undamaged geo page (Err (Damaged at want got)) h = absurd (h tt)
 
 -- a page that reads as no node
 pub reads_as_none : (geo : Geometry) (bytes : List ℕ) (level total least page : ℕ) (fault : PortFault) → geo.fan ≤ 340 → (NodeReads geo.fan bytes → ⊥)

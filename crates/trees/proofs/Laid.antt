@@ -24,7 +24,7 @@ use Rattle.trees.specs.Damage.{IsSoundWay}
 use Rattle.trees.specs.Rows.{row_bytes, row_size, row_units, AreTrees}
 use Rattle.trees.proofs.Reading.{two_parts, part_behind, written_twice, left_over, later, part_of_front}
 use Rattle.trees.specs.Counted.{Counted}
-use Rattle.trees.proofs.Counts.{counted_kept, counted_leaf, counted_on}
+use Rattle.trees.proofs.Counts.{counted_kept, counted_leaf, counted_on, counted_same}
 use Rattle.trees.specs.Made.{Extends, Spent, AreUsed, Holds, Has, IsTaken, Took, Stays, pages_of, sizes_of, changed}
 
 -- ---- states that keep the used units
@@ -87,6 +87,9 @@ module _ {S : Type 0} (g : ground.Ghosts S) where
       none_goes : (used : Bool) (count more now : ℕ) → now ≡ with_refs used count more → count ≤ refs_most → (count ≤ now) × (now ≤ refs_most)
       none_goes true count more now is few = (omega (arith, is, few), omega (arith, is, few))
       none_goes false count more now is few = (omega (arith, is), omega (arith, is, few))
+
+  pub took_none : (a : S) → Took g a a []
+  took_none a = record { each = tt; all = λ p is. true≢false (sym is.1 ∙ is.0) }
 
   pub spent_none : (a : S) → Spent g a a 0 0
   spent_none a = record { of_leaves = omega arith; of_pages = omega arith }
@@ -152,6 +155,31 @@ pub record LaidSoFar {S : Type 0} (g : ground.Ghosts S) (old now : S) (run : Lis
   pub counts : Counted g old now
   pub way : g.tells old → (byte new : ℕ) → Stays at cut (length given) byte new → new < done → IsSoundWay (g.geometry old) (g.unit old) (NamesLeaf (g.geometry old)) 0 0 run byte byte
   pub bytes : g.tells old → Holds g old 0 run → row_bytes (g.unit now) 0 row ≡ take done (changed (row_bytes (g.unit old) 0 run) at cut given)
+
+-- nothing is laid yet
+pub laid_none : {S : Type 0} (g : ground.Ghosts S) (old : S) (run : List Part) (at cut : ℕ) (given lengths : List ℕ) → LaidSoFar g old old run at cut given lengths 0 [] 0
+laid_none g old run at cut given lengths = record {
+  extends = extends_refl g old;
+  sizes = refl;
+  sum = omega arith;
+  named = tt;
+  took = took_none g old;
+  spent = spent_none g old;
+  counts = counted_same g old;
+  way = λ told byte new stays before. absurd (omega (arith, before));
+  bytes = λ told holds. refl;
+}
+
+-- a leaf more doesn't pass the end
+pub laid_fits : (lengths : List ℕ) (i done : ℕ) → i < length lengths → done + sum_of plain (drop i lengths) ≡ sum_of plain lengths → done + get_or lengths i 0 ≤ sum_of plain lengths
+laid_fits lengths i done lt sum = omega (arith, sum, ap (sum_of plain) (drop-cons lengths i 0 lt))
+
+-- a buffer of which the front was written
+pub buffer_written : (out buffer : List ℕ) (n : ℕ) → n ≤ length buffer → length out ≡ length (take n buffer) → (length (take n (out ++ drop n buffer)) ≡ n) × (length (out ++ drop n buffer) ≡ length buffer)
+buffer_written out buffer n fits len =
+    let front : length out ≡ n = len ∙ length-take-le n buffer fits in
+    let all : length (out ++ drop n buffer) ≡ length buffer = omega (arith, length-append out (drop n buffer), length-drop n buffer, front, fits) in
+    (length-take-le n (out ++ drop n buffer) (omega (arith, all, fits)), all)
 
 -- ---- filling one leaf
 

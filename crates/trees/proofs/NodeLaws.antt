@@ -1,6 +1,6 @@
 -- A page reads as a node exactly where it is the page of a level and a list of pairs.
-use Rattle.std.proofs.Common.{◌≡◌, ◌↔◌, ℕ, zero, suc, ◌+◌, ◌-◌, ◌*◌, ◌^◌, ◌<◌, ◌≤◌, List, [], ◌∷◌, ◌++◌, length, take, drop, Some, refl, sym, ap, subst, ◌∙◌, arith, append_assoc}
-use Rattle.std.specs.Prelude.{slice_index, slice_get}
+use Rattle.std.proofs.Common.{◌≡◌, ◌↔◌, ℕ, zero, suc, ◌+◌, ◌-◌, ◌*◌, ◌^◌, ◌<◌, ◌≤◌, List, [], ◌∷◌, ◌++◌, length, take, drop, Option, Some, None, Result, Ok, Err, refl, sym, ap, subst, ◌∙◌, arith, append_assoc}
+use Rattle.std.specs.Prelude.{slice_index, slice_get, IfOk, IfSome, IfNone}
 use Rattle.std.specs.List.{flat_map, AllByRecursion}
 use Rattle.std.proofs.lemmas.List.{drop-drop, drop_at, length-append, length-drop, length-take, length-replicate, take-append-drop, take_all}
 use Rattle.ex_base.specs.Bytes.{IsBytes}
@@ -13,7 +13,7 @@ use Rattle.trees.specs.declared.width.Width.{Width}
 use Rattle.trees.specs.declared.width.Width.TheVariants.{Narrow, Wide}
 use Rattle.trees.specs.Node.{kind_of, count_len, pair_len, width_on, pair_bytes, pair_at, read_pairs, RiseFrom, HasPairFields, IsNode, PairsOf, Node, node_on, node_of, level_on, pairs_on}
 use Rattle.trees.specs.Reads.{FrameReads, NodeReads, IsViewed}
-use Rattle.trees.proofs.PairLaws.{pair_inside, pairs_again, pairs_back, fields_read, length-pairs, length-read_pairs}
+use Rattle.trees.proofs.PairLaws.{pairs_again, pairs_back, fields_read, length-pairs, length-read_pairs}
 
 -- ---- the fields of a node
 
@@ -147,6 +147,26 @@ reads_spelled fan page fits h =
       spelled = spelled_at (width_on page) fan page refl fits h;
     }
 
+-- ---- what stands behind the pairs decides
+
+pub frame_decides : (fan : ℕ) (page : List ℕ) (w : Width) (n k : ℕ) (Yes : Type 0) → 8 ≤ length page → w ≡ width_on page → n ≡ number_at 2 page 2 → slice_index page 0 ≡ kind_of w → (slice_index page 1 ≡ 0 → ⊥) → AreZero (take 4 (drop 4 page))
+    → (n ≡ 0 → ⊥) → n ≤ 2 * fan + 1 → k ≡ pair_len w → 8 + k * n ≤ length page → (Yes ↔ AreZero (take (length page - (8 + k * n)) (drop (8 + k * n) page))) → (Yes ↔ FrameReads fan page)
+frame_decides fan page w n k Yes long is count kind inner gap some few size room both =
+    let whole : take (length page - (8 + k * n)) (drop (8 + k * n) page) ≡ drop (8 + k * n) page = take_all (length page - (8 + k * n)) (drop (8 + k * n) page) (omega (arith, length-drop (8 + k * n) page)) in
+    let place : 8 + k * n ≡ 8 + pair_len (width_on page) * number_at 2 page 2 = ap (λ (j : ℕ). 8 + j * n) (size ∙ ap pair_len is) ∙ ap (λ (m : ℕ). 8 + pair_len (width_on page) * m) count in (
+      λ yes. record {
+        long = long;
+        kind = kind ∙ ap kind_of is;
+        inner = omega (arith, inner);
+        gap = gap;
+        some = omega (arith, some, count);
+        few = omega (arith, few, count);
+        room = subst (λ (m : ℕ). m ≤ length page) place room;
+        rest = subst (λ (m : ℕ). AreZero (drop m page)) place (subst AreZero whole (both.0 yes));
+      },
+      λ frame. both.1 (subst AreZero (sym whole) (subst (λ (m : ℕ). AreZero (drop m page)) (sym place) frame.rest)),
+    )
+
 -- ---- the counts decide
 
 same_pairs : (page : List ℕ) (w : Width) (n : ℕ) → w ≡ width_on page → n ≡ number_at 2 page 2 → read_pairs w n (take (length page - 8) (drop 8 page)) ≡ read_pairs (width_on page) (number_at 2 page 2) (drop 8 page)
@@ -174,6 +194,17 @@ rise_decides fan page w n Yes h is count both =
       },
       λ node. both.1 (subst (RiseFrom 0) (sym same) node.rising),
     )
+
+-- what is said of a row that is found, or of none
+pub found_on : {X E : Type 0} (r : Result (Option X) E) (P Q : Type 0) → (P → Q) → IfOk r (λ found. IfSome found (λ _. P)) → IfOk r (λ found. IfSome found (λ _. Q))
+found_on (Ok (Some x)) P Q f h = f h
+found_on (Ok None) P Q f h = tt
+found_on (Err e) P Q f h = tt
+
+pub none_on : {X E : Type 0} (r : Result (Option X) E) (P Q : Type 0) → (Q → P) → IfOk r (λ found. IfNone found (P → ⊥)) → IfOk r (λ found. IfNone found (Q → ⊥))
+none_on (Ok (Some x)) P Q f h = tt
+none_on (Ok None) P Q f h = λ q. h (f q)
+none_on (Err e) P Q f h = tt
 
 -- ---- what a view knows
 

@@ -28,11 +28,11 @@ use Rattle.trees.specs.Rows.{row_bytes, row_size, row_units, row_shape, AreTrees
 use Rattle.trees.specs.Made.{Extends, Spent, AreUsed, Holds, Has, IsTaken, Took, pages_of, sizes_of}
 use Rattle.trees.specs.Built.{Built, IsCut, AreSome, even_lens}
 use Rattle.trees.proofs.Kept.{row_extends, holds_on}
-use Rattle.trees.proofs.Counts.{counted_node, counted_on}
+use Rattle.trees.proofs.Counts.{counted_node, counted_on, counted_same}
 use Rattle.trees.specs.Counted.{Counted, NamesPairs}
 use Rattle.trees.specs.Owners.{named_on}
 use Rattle.trees.specs.Names.{page_of_pair}
-use Rattle.trees.proofs.Laid.{spent_on, extends_on, extends_node, took_more, has_left, has_right}
+use Rattle.trees.proofs.Laid.{spent_none, spent_on, extends_refl, extends_on, extends_node, took_none, took_more, has_left, has_right}
 pub use Rattle.trees.proofs.Sizes.{front_most as size_of_take, rest_most as size_of_drop}
 
 -- ---- pairs, one after the other
@@ -168,6 +168,19 @@ pub record OverSoFar {S : Type 0} (g : ground.Ghosts S) (old now : S) (level : �
   pub spent : Spent g old now 0 i
   pub over : g.tells old → IsOver (g.unit now) level above (take i (cut_by lens row))
   pub counts : g.tells old → (l : ℕ) → level ≡ suc l → Holds g old l row → NamesPairs g → Counted g old now
+
+-- no node is there yet
+pub over_none : {S : Type 0} (g : ground.Ghosts S) (old : S) (level : ℕ) (row : List Part) (lens : List ℕ) → OverSoFar g old old level row lens 0 [] 0
+over_none g old level row lens = record {
+  extends = extends_refl g old;
+  at_is = refl;
+  sizes = refl;
+  area = tt;
+  took = took_none g old;
+  spent = spent_none g old;
+  over = λ told. tt;
+  counts = λ told l is holds names. counted_same g old;
+}
 
 -- ---- the lengths of the pieces
 

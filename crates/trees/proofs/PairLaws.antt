@@ -1,5 +1,5 @@
 -- Pairs that are written are read again, and pairs that are read are written so.
-use Rattle.std.proofs.Common.{◌≡◌, ℕ, ◌+◌, ◌-◌, ◌*◌, ◌<◌, ◌≤◌, ◌↔◌, List, ◌∷◌, ◌++◌, length, take, drop, refl, sym, ap, ◌∙◌, arith}
+use Rattle.std.proofs.Common.{◌≡◌, ℕ, ◌+◌, ◌-◌, ◌*◌, ◌<◌, ◌≤◌, ◌↔◌, List, ◌∷◌, ◌++◌, length, take, drop, refl, sym, ap, subst, ◌∙◌, arith}
 use Rattle.std.specs.List.{flat_map, AllByRecursion}
 use Rattle.std.proofs.Math.Nat.{mul-le-mul_left}
 use Rattle.std.proofs.lemmas.List.{drop-drop}
@@ -21,6 +21,11 @@ some_pair Wide = omega arith
 -- a pair stands inside the bytes of all of them
 pub pair_inside : (w : Width) (n i : ℕ) → i < n → pair_len w * i + pair_len w ≤ pair_len w * n
 pair_inside w n i lt = omega (arith, mul-le-mul_left {m = i + 1} {n = n} (pair_len w) (omega arith))
+
+-- pairs of as many bytes
+pub pairs_fit : (w : Width) (k n most : ℕ) → k ≡ pair_len w → n ≤ most → k * n ≤ 12 * most
+pairs_fit Narrow k n most is le = subst (λ (j : ℕ). j * n ≤ 12 * most) (sym is) (omega (arith, le))
+pairs_fit Wide k n most is le = subst (λ (j : ℕ). j * n ≤ 12 * most) (sym is) (omega (arith, le))
 
 -- a pair is its count and its page
 abbrev pub made_pair : ℕ → ℕ → Pair

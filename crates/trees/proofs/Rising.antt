@@ -1,5 +1,6 @@
 -- The pairs of a node read in one pass: the row of those that are read, while their counts rise.
-use Rattle.std.proofs.Common.{◌≡◌, ℕ, ◌+◌, ◌-◌, ◌*◌, ◌<◌, ◌↔◌, List, [], ◌∷◌, ◌++◌, drop, sym, ap, subst, ◌∙◌, append_assoc}
+use Rattle.std.proofs.Common.{◌≡◌, ℕ, ◌+◌, ◌-◌, ◌*◌, ◌<◌, ◌≤◌, ◌↔◌, List, [], ◌∷◌, ◌++◌, drop, sym, ap, subst, ◌∙◌, arith, append_assoc}
+use Rattle.std.proofs.lemmas.List.{append-nil}
 use Rattle.ex_base.specs.declared.geometry.Geometry.{Geometry}
 use Rattle.ex_base.specs.Bytes.{IsBytes}
 use Rattle.ex_base.specs.Fields.{number_at}
@@ -28,6 +29,14 @@ row_more w n i last count page bytes row lt a b rises h =
       rise = goes_on w (RiseFrom 0 (read_pairs w n bytes)) n i last count bytes lt a rises h.rise;
       parts = h.parts ∙ ap (λ (ps : List Pair). row ++ parts_of last ps) step ∙ sym (append_assoc row (part ∷ []) (parts_of count rest));
     }
+
+-- no pair is left
+pub row_all : (w : Width) (n i last : ℕ) (bytes : List ℕ) (row : List Part) → n ≤ i → RowSoFar w n i last bytes row → RiseFrom 0 (read_pairs w n bytes) × (row ≡ parts_of 0 (read_pairs w n bytes))
+row_all w n i last bytes row end h =
+    let none : n - i ≡ 0 = omega arith in (
+      h.rise.1 (subst (λ (k : ℕ). RiseFrom last (read_pairs w k (drop (pair_len w * i) bytes))) (sym none) tt),
+      sym (h.parts ∙ ap (λ (k : ℕ). row ++ parts_of last (read_pairs w k (drop (pair_len w * i) bytes))) none ∙ append-nil row),
+    )
 
 -- ---- a page that reads as a node
 

@@ -8,14 +8,14 @@ use Rattle.ex_base.specs.Area.{NamesLeaf}
 use Rattle.ex_base.specs.Ports.{Keeps}
 use Rattle.ex_base.specs.declared.geometry.Geometry.{Geometry}
 use Rattle.ex_base.specs.declared.ground.Ground as ground
-use Rattle.ex_base.proofs.Keeping.{keeps_on}
+use Rattle.ex_base.proofs.Keeping.{keeps_refl, keeps_on}
 use Rattle.ex_base.proofs.Each.{split_each}
 use Rattle.trees.specs.Trees.{Units, bytes_on}
 use Rattle.trees.specs.declared.rows.Part.{Part}
 use Rattle.ex_base.specs.declared.faults.PortFault.{PortFault}
 use Rattle.ex_base.specs.declared.faults.PortFault.TheVariants.{Disk, Memory, Damaged}
 use Rattle.trees.specs.Node.{pairs_on}
-use Rattle.trees.specs.Damage.{IsSoundWay, IsWalkFault, IsNodeAt}
+use Rattle.trees.specs.Damage.{IsLeafFault, IsSoundWay, IsWalkFault, IsNodeAt}
 use Rattle.trees.specs.Spans.{IsSpan}
 use Rattle.trees.proofs.SpanLaws.{span_trees, span_bytes}
 use Rattle.trees.proofs.Blame.{any_at}
@@ -23,7 +23,7 @@ use Rattle.trees.specs.Rows.{row_bytes, row_size, parts_of, AreTrees}
 use Rattle.trees.proofs.TreeLaws.{AreWhole}
 use Rattle.trees.proofs.Reading.{no_part, row_trees, row_spells, trees_back, bytes_back}
 use Rattle.trees.proofs.Sizes.{around_row, size-front}
-use Rattle.trees.proofs.Laid.{row_length}
+use Rattle.trees.proofs.Laid.{part_min, row_length}
 use Rattle.trees.proofs.Over.{bytes_app}
 use Rattle.trees.proofs.Ways.{way_index, way_kept}
 
@@ -45,6 +45,23 @@ node_read g a b (suc l) least tree trees lent pos len inside out ready above sam
     (read' (g.leads_told a b k.leads told) (trees_back g a b l trees k (span_trees (parts_of 0 (pairs_on (g.unit a tree.page.0))) trees pos len inside (span told) (g.geometry a) (g.unit a) l trees_below)))
     ∙ sym (span_bytes (parts_of 0 (pairs_on (g.unit a tree.page.0))) trees pos len inside (span told) (g.geometry a) (g.unit a) l (g.whole a ready told) trees_below)
     ∙ ap (λ xs. take len (drop pos xs)) (row_spells (g.unit a) l tree.page.0 tree.size (parts_of 0 (pairs_on (g.unit a tree.page.0))) (node told).row.parts ∙ sym (append-nil (bytes_on (g.unit a) (suc l) tree.page.0 tree.size)))
+
+-- a leaf as a row of one tree
+pub leaf_read : (u : Units) (l len pos : ℕ) (tree : Part) (out : List ℕ) → l ≡ 0 → len ≤ tree.size - pos → out ≡ take len (drop pos (u tree.page.0)) → out ≡ take len (drop pos (row_bytes u l (tree ∷ [])))
+leaf_read u l len pos tree out is fits read =
+    subst (λ k. out ≡ take len (drop pos (row_bytes u k (tree ∷ [])))) (sym is)
+    (read ∙ sym (part_min (u tree.page.0) pos len tree.size fits) ∙ ap (λ xs. take len (drop pos xs)) (sym (append-nil (take tree.size (u tree.page.0)))))
+
+pub leaf_way : (geo : Geometry) (u : Units) (l least : ℕ) (tree : Part) (first last : ℕ) → l ≡ 0 → NamesLeaf geo tree.page.0 → IsSoundWay geo u (NamesLeaf geo) l least (tree ∷ []) first last
+leaf_way geo u l least tree first last is named = subst (λ k. IsSoundWay geo u (NamesLeaf geo) k least (tree ∷ []) first last) (sym is) (λ inside. named, λ behind. tt)
+
+pub leaf_walk : (geo : Geometry) (u : Units) (l least : ℕ) (tree : Part) (fault : PortFault) → l ≡ 0 → IsLeafFault geo tree.page fault → IsWalkFault geo u l least (tree ∷ []) fault
+leaf_walk geo u l least tree fault is h = subst (λ k. IsWalkFault geo u k least (tree ∷ []) fault) (sym is) (at_leaf fault h)
+  where
+    at_leaf : (fault : PortFault) → IsLeafFault geo tree.page fault → IsWalkFault geo u 0 least (tree ∷ []) fault
+    at_leaf Disk h = tt
+    at_leaf Memory h = tt
+    at_leaf (Damaged at want got) h = inl h
 
 -- a fault on the way down from one tree of a row
 pub walk_tree : (geo : Geometry) (u : Units) (level least i : ℕ) (row : List Part) (fault : PortFault) → i < length row → IsWalkFault geo u level least (get_or row i no_part ∷ []) fault → IsWalkFault geo u level least row fault
@@ -179,3 +196,26 @@ module _ {S : Type 0} (g : ground.Ghosts S) where
       let all : take i row ≡ row = take_all i row end in
       let is : done ≡ length before = omega (arith, h.done_is, ap row_size all, range) in
       (is, take_all done out (omega (arith, is, h.len)))
+
+  -- nothing is read yet
+  pub read_none : (old : S) (level least : ℕ) (row : List Part) (pos : ℕ) (out : List ℕ) → ReadSoFar g old old level least row pos out out 0 pos 0
+  read_none old level least row pos out = record {
+    kept = keeps_refl g old;
+    len = refl;
+    at_is = omega arith;
+    done_is = omega arith;
+    bytes = λ told trees. refl;
+    way = λ told byte low high. absurd (omega (arith, low, high));
+  }
+
+  -- what all of it says
+  pub bytes_all : (old now : S) (level least : ℕ) (row : List Part) (pos : ℕ) (before out : List ℕ) (i at done : ℕ) → length row ≤ i → length before ≤ row_size row - pos → ReadSoFar g old now level least row pos before out i at done
+      → g.tells old → AreTrees (g.geometry old) (g.unit old) level row → out ≡ take (length before) (drop pos (row_bytes (g.unit old) level row))
+  bytes_all old now level least row pos before out i at done end range h told trees =
+      let all = read_all old now level least row pos before out i at done end range h in
+      sym all.1 ∙ h.bytes told trees ∙ ap (λ k. take k (drop pos (row_bytes (g.unit old) level row))) all.0
+
+  pub way_all : (old now : S) (level least : ℕ) (row : List Part) (pos : ℕ) (before out : List ℕ) (i at done : ℕ) → length row ≤ i → length before ≤ row_size row - pos → ReadSoFar g old now level least row pos before out i at done
+      → g.tells old → (byte : ℕ) → pos ≤ byte → byte < pos + length before → IsSoundWay (g.geometry old) (g.unit old) (NamesLeaf (g.geometry old)) level least row byte byte
+  way_all old now level least row pos before out i at done end range h told byte low high =
+      h.way told byte low (omega (arith, high, (read_all old now level least row pos before out i at done end range h).0))

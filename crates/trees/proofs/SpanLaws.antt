@@ -10,12 +10,12 @@ use Rattle.ex_base.specs.declared.faults.PortFault.{PortFault}
 use Rattle.ex_base.specs.declared.geometry.Geometry.{Geometry}
 use Rattle.ex_base.proofs.Rows.{each-take, each-drop, sum_of-append}
 use Rattle.trees.specs.declared.Pair.{Pair}
-use Rattle.trees.specs.Node.{RiseFrom, counts_of, start_of, IsFirst}
+use Rattle.trees.specs.Node.{RiseFrom, counts_of, pairs_on, start_of, IsFirst}
 use Rattle.trees.proofs.Children.{length-counts}
 use Rattle.trees.specs.Trees.{Units}
 use Rattle.trees.specs.declared.rows.Part.{Part}
-use Rattle.trees.specs.Rows.{parts_of, row_size, row_bytes, size_of_part, AreTrees, FitLeaves, IsFilled}
-use Rattle.trees.specs.Damage.{IsSoundWay, IsWalkFault}
+use Rattle.trees.specs.Rows.{parts_of, row_size, row_bytes, size_of_part, AreTrees, FitLeaves, IsFilled, IsRowOn}
+use Rattle.trees.specs.Damage.{IsNodeAt, IsSoundWay, IsWalkFault, NamesNode}
 use Rattle.trees.specs.Spans.{IsSpan}
 use Rattle.trees.proofs.TreeLaws.{AreWhole}
 use Rattle.trees.proofs.Parts.{start-next, halves_fit}
@@ -23,6 +23,15 @@ use Rattle.trees.proofs.Laid.{row_length}
 use Rattle.trees.proofs.Over.{bytes_app}
 use Rattle.trees.proofs.Ways.{way_inside}
 use Rattle.trees.proofs.Blame.{walk_part}
+
+-- the node that stands where its parent says
+pub node_here : (geo known : Geometry) (u : Units) (level total least page : ℕ) (bytes : List ℕ) → known ≡ geo → bytes ≡ u page → NamesNode known page → IsRowOn known bytes level total (parts_of 0 (pairs_on bytes)) → IsFilled known level least (parts_of 0 (pairs_on bytes))
+    → IsNodeAt geo u level total least page
+node_here geo known u level total least page bytes geo_is bytes_is area row filled = record {
+  area = subst (λ (g : Geometry). NamesNode g page) geo_is area;
+  row = subst (λ (b : List ℕ). IsRowOn geo b level total (parts_of 0 (pairs_on b))) bytes_is (subst (λ (g : Geometry). IsRowOn g bytes level total (parts_of 0 (pairs_on bytes))) geo_is row);
+  filled = subst (λ (b : List ℕ). IsFilled geo level least (parts_of 0 (pairs_on b))) bytes_is (subst (λ (g : Geometry). IsFilled g level least (parts_of 0 (pairs_on bytes))) geo_is filled);
+}
 
 -- ---- from the counts of a node
 

@@ -6,6 +6,7 @@ use Rattle.ex_base.proofs.Results.{from_ok, if_ok_from, on_ok_from}
 use Rattle.tree_insert.specs.declared.layout.Growth.TheVariants.{Append}
 use Rattle.tree_insert.proofs.RootEdit.{root_stays, nothing_changes, nothing_turned, spells_end}
 use Rattle.trees.proofs.Sound.{sound_root}
+use Rattle.trees.proofs.Laid.{extends_refl}
 use Rattle.tree_insert.proofs.edit.append.Goals as goal
 
 pub returns-then-is_empty-clause-shape : goal.returns-then-is_empty-clause-shape
@@ -34,3 +35,39 @@ returns-clause-sound g c = IfErr-weaker c.grow.result _ _ (λ f h told whole. so
 
 pub returns-clause-way : goal.returns-clause-way
 returns-clause-way g c = on_ok_weaker c.grow.result (λ way told some. way told) c.grow.ensures.way
+
+pub returns-then-is_empty-clause-extends : goal.returns-then-is_empty-clause-extends
+returns-then-is_empty-clause-extends g c = extends_refl g.B.Ground c.args.blocks.now
+
+pub returns-then-is_empty-clause-leads : goal.returns-then-is_empty-clause-leads
+returns-then-is_empty-clause-leads g c = g.B.Ground.leads_refl c.args.blocks.now
+
+pub grow-requires-clause-root : goal.grow-requires-clause-root
+grow-requires-clause-root g c = c.requires.root
+
+pub grow-requires-clause-ready : goal.grow-requires-clause-ready
+grow-requires-clause-ready g c = c.requires.ready
+
+pub grow-requires-clause-limit : goal.grow-requires-clause-limit
+grow-requires-clause-limit g c = c.requires.limit
+
+pub returns-clause-cause : goal.returns-clause-cause
+returns-clause-cause g c = c.grow.ensures.cause
+
+pub returns-clause-leads : goal.returns-clause-leads
+returns-clause-leads g c = c.grow.ensures.leads
+
+pub returns-clause-extends : goal.returns-clause-extends
+returns-clause-extends g c = c.grow.ensures.extends
+
+pub returns-clause-fault : goal.returns-clause-fault
+returns-clause-fault g c = c.grow.ensures.fault
+
+pub returns-clause-size : goal.returns-clause-size
+returns-clause-size g c = c.grow.ensures.size
+
+pub returns-clause-leaves : goal.returns-clause-leaves
+returns-clause-leaves g c = c.grow.ensures.leaves
+
+pub returns-clause-pages : goal.returns-clause-pages
+returns-clause-pages g c = c.grow.ensures.pages

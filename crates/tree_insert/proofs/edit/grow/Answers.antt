@@ -1,5 +1,5 @@
-use Rattle.std.proofs.Common.{arith, List, ◌≤◌, ◌+◌, ◌*◌, ap, sym, subst, refl, length}
-use Rattle.std.proofs.lemmas.Result.{IfOk-at_ok}
+use Rattle.std.proofs.Common.{arith, List, ◌≤◌, ◌+◌, ◌*◌, ap, sym, subst, refl, length, ◌∙◌}
+use Rattle.std.proofs.lemmas.Result.{IfOk-at_ok, IfOk-weaker}
 use Rattle.ex_base.specs.declared.geometry.Geometry.{Geometry}
 use Rattle.ex_base.specs.declared.names.Area.TheVariants.{Page}
 use Rattle.ex_base.specs.Needs.{growth_leaves}
@@ -14,6 +14,13 @@ use Rattle.tree_insert.proofs.RootEdit.{edited, few_roots, enough_pages, enough_
 use Rattle.ex_base.proofs.Handed.{no_value, not_given, cause_here}
 use Rattle.ex_base.specs.declared.faults.PortFault.TheVariants.{Memory}
 use Rattle.ex_base.proofs.Keeping.{cause_on}
+use Rattle.trees.specs.Rows.{row_size}
+use Rattle.trees.specs.Built.{AreSome}
+use Rattle.trees.specs.Damage.{root_row}
+use Rattle.tree_insert.proofs.WalkFaults.{undamaged}
+use Rattle.std.proofs.lemmas.List.{length-take-le}
+use Rattle.ex_base.specs.Sizes.{most_page}
+use Rattle.ex_base.proofs.Geometries.{page_le}
 use Rattle.tree_insert.proofs.edit.grow.Goals as goal
 
 pub new_parts-requires-clause-pages : goal.new_parts-requires-clause-pages
@@ -134,3 +141,34 @@ new_parts-requires-clause-limit g c = c.requires.limit
 
 pub new_parts-requires-clause-spot : goal.new_parts-requires-clause-spot
 new_parts-requires-clause-spot g c = c.requires.spot
+
+pub returns-clause-fault : goal.returns-clause-fault
+returns-clause-fault g c = undamaged (g.B.Ground.geometry c.args.blocks.now) (g.B.Ground.unit c.args.blocks.now) c.rooted.result (g.B.Ground.tells c.args.blocks.now) c.args.root.now.height 2 (root_row c.args.root.now) c.rooted.ensures.no_damage
+
+pub rooted-requires-clause-limit : goal.rooted-requires-clause-limit
+rooted-requires-clause-limit g c = omega (arith, ap row_size c.deref.ensures.value, c.in_ok-row.ensures.sum, c.requires.limit)
+
+pub rooted-requires-clause-sizes : goal.rooted-requires-clause-sizes
+rooted-requires-clause-sizes g c = subst AreSome (sym c.deref.ensures.value) c.in_ok-row.ensures.sizes
+
+pub rooted-requires-clause-some : goal.rooted-requires-clause-some
+rooted-requires-clause-some g c = omega (arith, ap length c.deref.ensures.value, c.in_ok-row.ensures.some)
+
+pub returns-clause-leaves : goal.returns-clause-leaves
+returns-clause-leaves g c = on_ok_from c.rooted.result _ (λ made is. omega (arith, from_ok c.rooted.result made _ is c.rooted.ensures.leaves, c.in_ok-row.ensures.leaves))
+
+pub returns-clause-size : goal.returns-clause-size
+returns-clause-size g c = IfOk-weaker c.rooted.result _ _ (λ made is. is ∙ ap row_size c.deref.ensures.value ∙ c.in_ok-row.ensures.sum) c.rooted.ensures.size
+
+pub rooted-requires-clause-buffer : goal.rooted-requires-clause-buffer
+rooted-requires-clause-buffer g c =
+    let fits : c.geometry-geometry.result.page_size ≤ length c.deref_mut-2.result.now = omega (arith, c.deref_mut-2.ensures.len, c.in_ok-buffer.ensures.len, c.leaf_bytes.ensures, page_le c.geometry-geometry.result) in
+    length-take-le c.geometry-geometry.result.page_size c.deref_mut-2.result.now fits ∙ ap (λ (geo : Geometry). geo.page_size) (c.geometry-geometry.ensures ∙ sym (g.B.Ground.leads_geometry c.args.blocks.now c.new_parts.new.blocks c.in_ok-row.ensures.extends.leads))
+
+pub slice_bounds-page-end : goal.slice_bounds-page-end
+slice_bounds-page-end g c =
+    let fits : c.geometry-geometry.result.page_size ≤ length c.deref_mut-2.result.now = omega (arith, c.deref_mut-2.ensures.len, c.in_ok-buffer.ensures.len, c.leaf_bytes.ensures, page_le c.geometry-geometry.result) in
+    sym (length-take-le c.geometry-geometry.result.page_size c.deref_mut-2.result.now fits)
+
+pub overflow_cast-geometry : goal.overflow_cast-geometry
+overflow_cast-geometry g c = omega (arith, most_page c.geometry-geometry.result)

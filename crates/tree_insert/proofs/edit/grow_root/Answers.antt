@@ -6,7 +6,7 @@ use Rattle.ex_base.specs.declared.geometry.Geometry.{Geometry}
 use Rattle.ex_base.specs.declared.names.Area.{Area}
 use Rattle.ex_base.specs.declared.names.Area.TheVariants.{Page, Segment}
 use Rattle.ex_base.specs.Needs.{growth_leaves}
-use Rattle.ex_base.specs.Sizes.{leaf_bytes}
+use Rattle.ex_base.specs.Sizes.{leaf_bytes, most_page}
 use Rattle.trees.specs.Split.{nodes_for}
 use Rattle.trees.specs.declared.rows.Part.{Part}
 use Rattle.trees.specs.Rows.{row_size, row_bytes, row_shape, FitLeaves}
@@ -21,7 +21,7 @@ use Rattle.trees.proofs.Paid.{some_node}
 use Rattle.tree_insert.proofs.Paid.{level_up, few_grown, node_free, node_paid}
 use Rattle.tree_insert.proofs.PaidRows.{paid_at}
 use Rattle.ex_base.specs.Area.{NamesLeaf}
-use Rattle.trees.specs.Damage.{IsSoundWay}
+use Rattle.trees.specs.Damage.{IsSoundWay, IsWalkFault}
 use Rattle.trees.proofs.Ways.{way_kept, way_low, way_one}
 use Rattle.ex_base.proofs.Keeping.{cause_on}
 use Rattle.ex_base.proofs.Geometries.{page_le}
@@ -29,7 +29,8 @@ use Rattle.ex_base.proofs.NeedLaws.{growth_few}
 use Rattle.ex_base.proofs.Results.{from_ok, if_ok_from, on_ok_from, cause_handed, if_err_handed}
 use Rattle.tree_insert.proofs.RootGrow.{lone_grew, root_grew}
 use Rattle.ex_base.proofs.Handed.{no_value, not_given, cause_here}
-use Rattle.trees.proofs.Blame.{walk_node}
+use Rattle.trees.proofs.Blame.{walk_node, walk_back, walk_below}
+use Rattle.tree_insert.proofs.WalkFaults.{undamaged, walk_leaves}
 use Rattle.tree_insert.proofs.edit.grow_root.Goals as goal
 
 pub returns-then-height-eq0-clause-paid : goal.returns-then-height-eq0-clause-paid
@@ -279,3 +280,35 @@ nodes_over-requires-clause-level g c = omega (arith, c.if-height-eq0.false)
 
 pub nodes_over-requires-clause-ready : goal.nodes_over-requires-clause-ready
 nodes_over-requires-clause-ready g c = g.B.Ground.leads_ready c.row_of.new.blocks c.grow_row.new.blocks c.in_ok-grown.ensures.leads (g.B.Ground.leads_ready c.args.blocks.now c.row_of.new.blocks c.in_ok-below.ensures.kept.leads c.requires.ready)
+
+pub returns-in_err-grown-clause-fault : goal.returns-in_err-grown-clause-fault
+returns-in_err-grown-clause-fault g c = if_err_handed c.from_residual-in_err-grown.result _ c.in_err-grown.field-0.0 c.from_residual-in_err-grown.ensures.1
+    (λ told. walk_below (g.B.Ground.geometry c.args.blocks.now) (g.B.Ground.unit c.args.blocks.now) c.args.height 2 0 (c.args.tree ∷ []) c.in_ok-below.below.items c.in_err-grown.field-0.0 c.if-height-eq0.false (omega arith) c.in_ok-below.ensures.area (c.in_ok-below.ensures.found told) c.in_ok-below.ensures.counted.filled
+    (walk_back g.B.Ground c.args.blocks.now c.row_of.new.blocks (c.args.height - 1) (g.B.Ground.geometry c.args.blocks.now).fan c.in_ok-below.below.items c.in_err-grown.field-0.0 c.in_ok-below.ensures.kept
+    (λ later. subst (λ k. IsWalkFault (g.B.Ground.geometry c.row_of.new.blocks) (g.B.Ground.unit c.row_of.new.blocks) (c.args.height - 1) k c.in_ok-below.below.items c.in_err-grown.field-0.0) (ap (λ (k : Geometry). k.fan) (g.B.Ground.leads_geometry c.args.blocks.now c.row_of.new.blocks c.in_ok-below.ensures.kept.leads))
+    (subst (λ r. IsWalkFault (g.B.Ground.geometry c.row_of.new.blocks) (g.B.Ground.unit c.row_of.new.blocks) (c.args.height - 1) (g.B.Ground.geometry c.row_of.new.blocks).fan r c.in_err-grown.field-0.0) c.deref.ensures.value (c.in_err-grown.ensures.fault later))) told))
+
+pub slice_bounds-page-end : goal.slice_bounds-page-end
+slice_bounds-page-end g c =
+    let fits : c.geometry-geometry.result.page_size ≤ length c.grow_row.new.buffer = omega (arith, c.grow_row.auto.buffer, c.requires.buffer, page_le (g.B.Ground.geometry c.args.blocks.now), ap (λ (k : Geometry). k.page_size) c.geometry-geometry.ensures) in
+    omega (arith, fits, length-take-le c.geometry-geometry.result.page_size c.grow_row.new.buffer fits)
+
+pub slice_bounds-page-end-2 : goal.slice_bounds-page-end-2
+slice_bounds-page-end-2 g c =
+    let fits : c.geometry-geometry.result.page_size ≤ length c.grow_row.new.buffer = omega (arith, c.grow_row.auto.buffer, c.requires.buffer, page_le (g.B.Ground.geometry c.args.blocks.now), ap (λ (k : Geometry). k.page_size) c.geometry-geometry.ensures) in
+    omega (arith, fits, length-take-le c.geometry-geometry.result.page_size c.grow_row.new.buffer fits)
+
+pub returns-clause-fault : goal.returns-clause-fault
+returns-clause-fault g c = undamaged (g.B.Ground.geometry c.args.blocks.now) (g.B.Ground.unit c.args.blocks.now) c.nodes_over.result (g.B.Ground.tells c.args.blocks.now) c.args.height 2 (c.args.tree ∷ []) c.nodes_over.ensures.no_damage
+
+pub nodes_over-requires-clause-sizes : goal.nodes_over-requires-clause-sizes
+nodes_over-requires-clause-sizes g c = subst AreSome (sym c.deref-2.ensures.value) c.in_ok-grown.ensures.grown.sizes
+
+pub nodes_over-requires-clause-some : goal.nodes_over-requires-clause-some
+nodes_over-requires-clause-some g c = omega (arith, ap length c.deref-2.ensures.value, c.in_ok-grown.ensures.grown.some)
+
+pub returns-then-height-eq0-clause-fault : goal.returns-then-height-eq0-clause-fault
+returns-then-height-eq0-clause-fault g c = walk_leaves (g.B.Ground.geometry c.args.blocks.now) (g.B.Ground.unit c.args.blocks.now) c.grow_leaves.result (g.B.Ground.tells c.args.blocks.now) c.args.height 0 2 (c.args.tree ∷ []) c.if-height-eq0.true c.grow_leaves.ensures.fault
+
+pub overflow_cast-page : goal.overflow_cast-page
+overflow_cast-page g c = omega (arith, most_page c.geometry-geometry.result)

@@ -6,7 +6,7 @@ use Rattle.ex_base.specs.declared.geometry.Geometry.{Geometry}
 use Rattle.ex_base.specs.declared.names.Area.{Area}
 use Rattle.ex_base.specs.declared.names.Area.TheVariants.{Page, Segment}
 use Rattle.ex_base.specs.Needs.{growth_leaves}
-use Rattle.ex_base.specs.Sizes.{leaf_bytes, object_most}
+use Rattle.ex_base.specs.Sizes.{leaf_bytes, object_most, most_page}
 use Rattle.trees.specs.Split.{nodes_for}
 use Rattle.trees.specs.declared.rows.Part.{Part}
 use Rattle.trees.specs.Damage.{IsNodeFault, IsSoundWay, IsWalkFault}
@@ -23,7 +23,7 @@ use Rattle.tree_insert.proofs.PlaceLaws.{read_size, read_most}
 use Rattle.trees.proofs.Paid.{some_node}
 use Rattle.tree_insert.proofs.Paid.{level_up, few_grown, node_free, node_paid}
 use Rattle.tree_insert.proofs.PaidRows.{paid_at}
-use Rattle.tree_insert.proofs.NodeStep.{spot_below, tree_grown, tree_count, tree_grew}
+use Rattle.tree_insert.proofs.NodeStep.{spot_below, tree_grown, tree_count, tree_grew, spot_inside}
 use Rattle.trees.proofs.Reading.{no_part}
 use Rattle.ex_base.specs.Area.{NamesLeaf}
 use Rattle.ex_base.proofs.Geometries.{page_le}
@@ -107,10 +107,9 @@ returns-in_err-made-clause-leads g t c =
 
 pub returns-in_err-made-clause-cause : goal.returns-in_err-made-clause-cause
 returns-in_err-made-clause-cause g t c =
-    let first : g.B.Ground.faults c.args.blocks.now ≤ g.B.Ground.faults c.row_of.new.blocks = g.B.Ground.leads_faults c.args.blocks.now c.row_of.new.blocks c.in_ok-below.ensures.kept.leads in
-    let second : g.B.Ground.faults c.row_of.new.blocks ≤ g.B.Ground.faults c.grow_row.new.blocks = g.B.Ground.leads_faults c.row_of.new.blocks c.grow_row.new.blocks c.in_ok-grown.ensures.leads in
-    let le : g.B.Ground.faults c.args.blocks.now ≤ g.B.Ground.faults c.grow_row.new.blocks = omega arith in
-    search rules
+    let first = g.B.Ground.leads_faults c.args.blocks.now c.row_of.new.blocks c.in_ok-below.ensures.kept.leads in
+    let second = g.B.Ground.leads_faults c.row_of.new.blocks c.grow_row.new.blocks c.in_ok-grown.ensures.leads in
+    cause_handed (g.B.Ground.faults c.args.blocks.now) (g.B.Ground.faults c.grow_row.new.blocks) (g.B.Ground.faults c.nodes_over.new.blocks) c.from_residual-in_err-made.result c.in_err-made.field-0.0 c.from_residual-in_err-made.ensures.1 (omega (arith, first, second)) c.in_err-made.ensures.cause
 
 pub returns-in_err-spliced-clause-leads : goal.returns-in_err-spliced-clause-leads
 returns-in_err-spliced-clause-leads g t c =
@@ -377,3 +376,22 @@ grow_leaves-requires-clause-spot g t c = c.requires.spot
 
 pub grow_leaves-requires-clause-leaves : goal.grow_leaves-requires-clause-leaves
 grow_leaves-requires-clause-leaves g t c = subst (λ k. FitLeaves (g.B.Ground.geometry c.args.blocks.now) k c.args.row.now) c.if-level-eq0.true c.requires.leaves
+
+pub slice_bounds-page-end : goal.slice_bounds-page-end
+slice_bounds-page-end g t c =
+    let fits : c.geometry-geometry.result.page_size ≤ length c.grow_row.new.buffer = omega (arith, c.grow_row.auto.buffer, c.requires.buffer, page_le (g.B.Ground.geometry c.args.blocks.now), ap (λ (k : Geometry). k.page_size) c.geometry-geometry.ensures) in
+    omega (arith, fits, length-take-le c.geometry-geometry.result.page_size c.grow_row.new.buffer fits)
+
+pub slice_bounds-page-end-2 : goal.slice_bounds-page-end-2
+slice_bounds-page-end-2 g t c =
+    let fits : c.geometry-geometry.result.page_size ≤ length c.grow_row.new.buffer = omega (arith, c.grow_row.auto.buffer, c.requires.buffer, page_le (g.B.Ground.geometry c.args.blocks.now), ap (λ (k : Geometry). k.page_size) c.geometry-geometry.ensures) in
+    omega (arith, fits, length-take-le c.geometry-geometry.result.page_size c.grow_row.new.buffer fits)
+
+pub overflow_cast-page : goal.overflow_cast-page
+overflow_cast-page g t c = omega (arith, most_page c.geometry-geometry.result)
+
+pub overflow_add-index : goal.overflow_add-index
+overflow_add-index g t c = omega (arith, c.tree_at-index.ensures.inside, c.requires.few)
+
+pub tree_at-index-requires-clause-pos : goal.tree_at-index-requires-clause-pos
+tree_at-index-requires-clause-pos g t c = spot_inside c.args.growth c.args.pos (row_size c.args.row.now) c.requires.spot

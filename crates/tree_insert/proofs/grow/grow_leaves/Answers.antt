@@ -2,13 +2,13 @@ use Rattle.std.proofs.Common.{arith, inl, inr, ◌≡◌, ◌≤◌, ◌+◌, �
 use Rattle.std.specs.List.{AllByRecursion}
 use Rattle.ex_base.specs.Even.{sum_of}
 use Rattle.ex_base.proofs.Spread.{plain, Between}
-use Rattle.ex_base.proofs.Geometries.{leaf_some}
+use Rattle.ex_base.proofs.Geometries.{leaf_some, leaf_most}
 use Rattle.ex_base.proofs.Results.{if_err_handed}
 use Rattle.trees.specs.Layout.{layout_of}
 use Rattle.trees.specs.declared.rows.Part.{Part}
 use Rattle.trees.specs.Damage.{IsWalkFault}
 use Rattle.trees.proofs.Blame.{walk_part}
-use Rattle.trees.specs.Rows.{row_size, row_bytes, row_shape}
+use Rattle.trees.specs.Rows.{row_size, row_bytes, row_shape, FitLeaves}
 use Rattle.trees.specs.Made.{Holds, changed, sizes_of}
 use Rattle.trees.specs.Grown.{Grew}
 use Rattle.tree_insert.specs.Growth.{row_by}
@@ -20,6 +20,10 @@ use Rattle.std.proofs.lemmas.Bool.{cases_lt}
 use Rattle.tree_insert.proofs.SoundWays.{leaves_way_at}
 use Rattle.ex_base.proofs.Handed.{no_value, not_given, cause_here}
 use Rattle.ex_base.specs.declared.faults.PortFault.TheVariants.{Memory}
+use Rattle.ex_base.proofs.Rows.{each-take, each-drop}
+use Rattle.tree_insert.proofs.PlaceLaws.{read_size, read_most}
+use Rattle.tree_insert.proofs.NodeStep.{spot_inside}
+use Rattle.ex_base.specs.Sizes.{leaf_bytes}
 use Rattle.tree_insert.proofs.grow.grow_leaves.Goals as goal
 
 pub plan_for-plan-requires-clause-fits : goal.plan_for-plan-requires-clause-fits
@@ -247,3 +251,48 @@ write_leaves-requires-clause-buffer g c = c.requires.buffer
 
 pub tree_at-index-requires-clause-some : goal.tree_at-index-requires-clause-some
 tree_at-index-requires-clause-some g c = c.requires.some
+
+pub write_leaves-requires-clause-leaves : goal.write_leaves-requires-clause-leaves
+write_leaves-requires-clause-leaves g c = subst (FitLeaves (g.B.Ground.geometry c.args.blocks.now) 0) (sym c.piece-old.ensures) (λ zero. each-take (λ (part : Part). part.size ≤ leaf_bytes (g.B.Ground.geometry c.args.blocks.now)) (c.run_of-run.result.end - c.run_of-run.result.first) (drop c.run_of-run.result.first c.args.row.now) (each-drop (λ (part : Part). part.size ≤ leaf_bytes (g.B.Ground.geometry c.args.blocks.now)) c.run_of-run.result.first c.args.row.now (c.requires.leaves refl)))
+
+pub spliced-requires-clause-inside : goal.spliced-requires-clause-inside
+spliced-requires-clause-inside g c = c.run_of-run.ensures.inside
+
+pub spliced-requires-clause-order : goal.spliced-requires-clause-order
+spliced-requires-clause-order g c = omega (arith, c.run_of-run.ensures.first, c.run_of-run.ensures.end)
+
+pub run_of-run-requires-clause-limit : goal.run_of-run-requires-clause-limit
+run_of-run-requires-clause-limit g c = omega (arith, c.tree_at-index.ensures.fits, read_size c.args.row.now c.tree_at-index.result.0 c.tree_at-index.ensures.inside, read_most c.args.row.now c.tree_at-index.result.0, c.requires.limit)
+
+pub returns-clause-pages : goal.returns-clause-pages
+returns-clause-pages g c = omega (arith, c.in_ok-made.ensures.spent.of_pages)
+
+pub lengths_of-requires-clause-plan : goal.lengths_of-requires-clause-plan
+lengths_of-requires-clause-plan g c = c.plan_for-plan.ensures.usable
+
+pub lengths_of-requires-clause-cap : goal.lengths_of-requires-clause-cap
+lengths_of-requires-clause-cap g c = omega (arith, leaf_some (g.B.Ground.geometry c.args.blocks.now), c.requires.buffer)
+
+pub plan_for-plan-requires-clause-cap : goal.plan_for-plan-requires-clause-cap
+plan_for-plan-requires-clause-cap g c = omega (arith, leaf_some (g.B.Ground.geometry c.args.blocks.now), c.requires.buffer)
+
+pub overflow_cast-cap : goal.overflow_cast-cap
+overflow_cast-cap g c = omega (arith, leaf_most (g.B.Ground.geometry c.args.blocks.now), c.requires.buffer)
+
+pub piece-old-requires : goal.piece-old-requires
+piece-old-requires g c = omega (arith, c.run_of-run.ensures.first, c.run_of-run.ensures.end, c.run_of-run.ensures.inside)
+
+pub overflow_sub-run : goal.overflow_sub-run
+overflow_sub-run g c = omega (arith, c.run_of-run.ensures.first, c.run_of-run.ensures.end)
+
+pub run_of-run-requires-clause-index : goal.run_of-run-requires-clause-index
+run_of-run-requires-clause-index g c = c.tree_at-index.ensures.inside
+
+pub plan_for-plan-requires-clause-index : goal.plan_for-plan-requires-clause-index
+plan_for-plan-requires-clause-index g c = c.tree_at-index.ensures.inside
+
+pub plan_for-plan-requires-clause-limit : goal.plan_for-plan-requires-clause-limit
+plan_for-plan-requires-clause-limit g c = c.requires.limit
+
+pub tree_at-index-requires-clause-pos : goal.tree_at-index-requires-clause-pos
+tree_at-index-requires-clause-pos g c = spot_inside c.args.growth c.args.pos (row_size c.args.row.now) c.requires.spot

@@ -221,3 +221,6 @@ row_of-requires g t c = c.requires.ready
 
 pub geometry-fan-requires : goal.geometry-fan-requires
 geometry-fan-requires g t c = record { ready = g.B.Ground.leads_ready c.args.blocks.now c.row_of.new.blocks c.in_ok-below.ensures.kept.leads c.requires.ready }
+
+pub returns-in-Ok-clause-most : goal.returns-in-Ok-clause-most
+returns-in-Ok-clause-most g t c = omega (arith, c.loop-child.invariant.most, front_most c.deref-child-items.result.now c.loop-child.child-index, ap row_size c.deref-child-items.ensures.value, c.in_ok-below.ensures.counted.sum)

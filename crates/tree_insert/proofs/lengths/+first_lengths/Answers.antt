@@ -11,7 +11,7 @@ use Rattle.trees.proofs.Parts.{below_fit}
 use Rattle.trees.proofs.Blame.{walk_back, walk_below, walk_node}
 use Rattle.trees.specs.Built.{AreSome}
 use Rattle.trees.proofs.RowReads.{walk_tree}
-use Rattle.tree_insert.proofs.Counting.{leaves_in, leaf_front, front_step, front_node}
+use Rattle.tree_insert.proofs.Counting.{leaves_in, leaf_front, front_step, front_node, front_start}
 use Rattle.trees.proofs.Reading.{no_part}
 use Rattle.ex_base.proofs.Handed.{not_given, cause_here}
 use Rattle.ex_base.specs.declared.faults.PortFault.TheVariants.{Memory}
@@ -138,3 +138,9 @@ row_of-requires g t c = c.requires.ready
 
 pub geometry-fan-requires : goal.geometry-fan-requires
 geometry-fan-requires g t c = record { ready = g.B.Ground.leads_ready c.args.blocks.now c.row_of.new.blocks c.in_ok-below.ensures.kept.leads c.requires.ready }
+
+pub loop-child-init : goal.loop-child-init
+loop-child-init g t c = front_start g.B.Ground c.args.blocks.now c.row_of.new.blocks c.args.most c.args.level c.deref-child-items.result.now c.args.lengths.now.items c.in_ok-below.ensures.kept c.requires.most
+
+pub returns-clause-most : goal.returns-clause-most
+returns-clause-most g t c = c.loop-child.invariant.few

@@ -3,7 +3,7 @@ use Rattle.std.proofs.lemmas.List.{length-take-le}
 use Rattle.std.proofs.lemmas.Result.{IfOk-at_ok, on_ok_weaker}
 use Rattle.ex_base.specs.Bytes.{written}
 use Rattle.ex_base.specs.Needs.{replaced_leaves}
-use Rattle.ex_base.specs.Sizes.{leaf_bytes, object_most}
+use Rattle.ex_base.specs.Sizes.{leaf_bytes, object_most, most_page}
 use Rattle.ex_base.specs.declared.geometry.Geometry.{Geometry}
 use Rattle.ex_base.specs.declared.names.Area.{Area}
 use Rattle.ex_base.specs.declared.names.Area.TheVariants.{Page, Segment}
@@ -357,3 +357,16 @@ replace_leaves-requires-clause-touched g t c = c.requires.touched
 
 pub replace_leaves-requires-clause-leaves : goal.replace_leaves-requires-clause-leaves
 replace_leaves-requires-clause-leaves g t c = subst (λ k. AreLeaves (g.B.Ground.geometry c.args.blocks.now) k c.args.run.now) c.if-level-eq0.true c.requires.leaves
+
+pub slice_bounds-page-end : goal.slice_bounds-page-end
+slice_bounds-page-end g t c =
+    let fits : c.geometry-geometry.result.page_size ≤ length c.replace_run.new.buffer = omega (arith, c.replace_run.auto.buffer, c.requires.buffer, page_le (g.B.Ground.geometry c.args.blocks.now), ap (λ (x : Geometry). x.page_size) c.geometry-geometry.ensures) in
+    omega (arith, fits, length-take-le c.geometry-geometry.result.page_size c.replace_run.new.buffer fits)
+
+pub slice_bounds-page-end-2 : goal.slice_bounds-page-end-2
+slice_bounds-page-end-2 g t c =
+    let fits : c.geometry-geometry.result.page_size ≤ length c.replace_run.new.buffer = omega (arith, c.replace_run.auto.buffer, c.requires.buffer, page_le (g.B.Ground.geometry c.args.blocks.now), ap (λ (x : Geometry). x.page_size) c.geometry-geometry.ensures) in
+    omega (arith, fits, length-take-le c.geometry-geometry.result.page_size c.replace_run.new.buffer fits)
+
+pub overflow_cast-page : goal.overflow_cast-page
+overflow_cast-page g t c = omega (arith, most_page c.geometry-geometry.result)

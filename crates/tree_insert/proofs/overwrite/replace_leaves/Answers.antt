@@ -13,6 +13,8 @@ use Rattle.tree_insert.proofs.ReplacedLeaves.{leaf_here, piece_here, few_leaves,
 use Rattle.ex_base.proofs.Handed.{no_value, not_given, cause_here}
 use Rattle.ex_base.specs.declared.faults.PortFault.TheVariants.{Memory}
 use Rattle.ex_base.specs.declared.geometry.Geometry.{Geometry}
+use Rattle.std.proofs.lemmas.List.{length-take}
+use Rattle.tree_insert.proofs.PlaceLaws.{read_most}
 use Rattle.tree_insert.proofs.overwrite.replace_leaves.Goals as goal
 use Rattle.ex_base.proofs.Results.{cause_handed, if_err_handed}
 
@@ -171,3 +173,22 @@ write_leaves-requires-clause-leaves g c = λ low. (subst (λ (geo : Geometry). (
 
 pub slice_bounds-part-count : goal.slice_bounds-part-count
 slice_bounds-part-count g c = omega arith
+
+pub write_leaves-requires-clause-buffer : goal.write_leaves-requires-clause-buffer
+write_leaves-requires-clause-buffer g c = omega (arith, c.loop-leaf.auto.buffer, c.requires.buffer, ap leaf_bytes (g.B.Ground.leads_geometry c.args.blocks.now c.loop-leaf.blocks c.loop-leaf.invariant.extends.leads))
+
+pub write_leaves-requires-clause-limit : goal.write_leaves-requires-clause-limit
+write_leaves-requires-clause-limit g c = omega (arith, read_most c.args.run.now c.loop-leaf.leaf-index, c.requires.limit, length-take (c.saturating_sub-done.result + c.min-cut.result - c.saturating_sub-done.result) (drop c.saturating_sub-done.result c.args.given.now), c.min-cut.ensures)
+
+pub write_leaves-requires-clause-lengths : goal.write_leaves-requires-clause-lengths
+write_leaves-requires-clause-lengths g c = ((omega (arith, each_at (λ (part : Part). 1 ≤ part.size) c.args.run.now c.loop-leaf.leaf-index no_part c.loop-leaf-test.true c.requires.sizes), omega (arith, each_at (λ (part : Part). part.size ≤ leaf_bytes (g.B.Ground.geometry c.args.blocks.now)) c.args.run.now c.loop-leaf.leaf-index no_part c.loop-leaf-test.true (c.requires.leaves.fit refl), c.loop-leaf.auto.buffer, c.requires.buffer)), tt)
+
+pub write_leaves-requires-clause-change : goal.write_leaves-requires-clause-change
+write_leaves-requires-clause-change g c =
+    let h = leaf_here c.args.run.now c.args.pos (length c.args.given.now) c.loop-leaf.leaf-index c.loop-leaf.start c.loop-leaf-test.true c.requires.touched c.loop-leaf.invariant.start_is in
+    omega (arith, h.begins, c.saturating_sub-at.ensures, c.min-cut.ensures)
+
+pub overflow_sub-leaf : goal.overflow_sub-leaf
+overflow_sub-leaf g c =
+    let h = leaf_here c.args.run.now c.args.pos (length c.args.given.now) c.loop-leaf.leaf-index c.loop-leaf.start c.loop-leaf-test.true c.requires.touched c.loop-leaf.invariant.start_is in
+    omega (arith, h.begins, c.saturating_sub-at.ensures)

@@ -1,4 +1,4 @@
-use Rattle.std.proofs.Common.{rules, arith, ap, ◌∙◌, ◌++◌, subst, take_all}
+use Rattle.std.proofs.Common.{rules, arith, ap, ◌∙◌, ◌++◌, subst, take_all, ◌≡◌, length}
 use Rattle.trees.proofs.Blame.{walk_back, walk_node}
 use Rattle.tree_insert.proofs.BelowRows.{below_more}
 use Rattle.ex_base.proofs.Handed.{no_value, not_given, cause_here}
@@ -9,6 +9,7 @@ use Rattle.trees.specs.declared.rows.Part.{Part}
 use Rattle.trees.specs.Rows.{IsCounted, IsRowOn}
 use Rattle.trees.specs.Damage.{NamesNode}
 use Rattle.tree_insert.specs.Replaced.{EachRow}
+use Rattle.trees.proofs.Parts.{narrow}
 use Rattle.tree_insert.proofs.overwrite.row_below.Goals as goal
 use Rattle.ex_base.proofs.Results.{if_err_handed, cause_handed}
 
@@ -100,3 +101,8 @@ returns-clause-found g c = λ told. subst (λ r. EachRow (λ part row. IsRowOn (
 
 pub returns-clause-area : goal.returns-clause-area
 returns-clause-area g c = subst (AllByRecursion (λ (part : Part). NamesNode (g.B.Ground.geometry c.args.blocks.now) part.page.0)) (take_all c.loop-part.part-index c.args.run.now (omega arith)) c.loop-part.invariant.area
+
+pub overflow_cast-len : goal.overflow_cast-len
+overflow_cast-len g c =
+    let len : c.len.result ≡ length c.in_ok-children.children.items = search rules in
+    omega (arith, len, c.in_ok-children.ensures.counted.few, narrow (g.B.Ground.geometry c.loop-part.blocks))

@@ -1,7 +1,10 @@
 use Rattle.std.proofs.Common.{◌≡◌, ◌+◌, ◌-◌, ◌∙◌, min, length, refl, arith, rules}
 use Rattle.trees.specs.Rows.{row_bytes}
-use Rattle.trees.proofs.Between.{filled_between, between_way}
+use Rattle.trees.proofs.Between.{filled_between, between_way, new_len}
 use Rattle.trees.proofs.Laid.{row_length}
+use Rattle.std.proofs.lemmas.List.{length-take-le}
+use Rattle.ex_base.proofs.Handed.{not_given, cause_here}
+use Rattle.ex_base.proofs.Results.{if_err_handed}
 use Rattle.trees.proofs.leaves.fill_once.Goals as goal
 
 pub returns-clause-bytes : goal.returns-clause-bytes
@@ -20,3 +23,27 @@ returns-clause-way g c = λ told byte stands stays low high.
     let read = between_way c.args.given.now c.part_of-new.result.now c.args.out.now c.args.place c.args.at c.min-before.result c.saturating_sub-inside.result (c.min.result + c.saturating_sub-2.result) (length c.args.out.now - length c.part_of-new.result.now) byte stands
     (omega (arith, c.min-before.ensures, c.saturating_sub.ensures)) c.saturating_sub-inside.ensures c.part_of-new.ensures from refl stays low high in
     c.in_ok-read_row.ensures.way told byte read.0 read.1
+
+pub overflow_sub-old : goal.overflow_sub-old
+overflow_sub-old g c = omega (arith, new_len c.args.given.now c.part_of-new.result.now c.args.out.now c.min-before.result c.saturating_sub-inside.result c.part_of-new.ensures)
+
+pub read_row-requires-clause-range : goal.read_row-requires-clause-range
+read_row-requires-clause-range g c = omega (arith, new_len c.args.given.now c.part_of-new.result.now c.args.out.now c.min-before.result c.saturating_sub-inside.result c.part_of-new.ensures, length-take-le (length c.args.out.now - length c.part_of-new.result.now) c.args.out.now (omega arith), c.min-before.ensures, c.saturating_sub.ensures, c.saturating_sub-inside.ensures, c.min.ensures, c.saturating_sub-2.ensures, c.requires.range, c.requires.change)
+
+pub returns-in_err-read_row-clause-bytes : goal.returns-in_err-read_row-clause-bytes
+returns-in_err-read_row-clause-bytes g c = not_given c.from_residual.result _ c.in_err-read_row.field-0.0 c.from_residual.ensures.1
+
+pub returns-in_err-read_row-clause-way : goal.returns-in_err-read_row-clause-way
+returns-in_err-read_row-clause-way g c = not_given c.from_residual.result _ c.in_err-read_row.field-0.0 c.from_residual.ensures.1
+
+pub returns-in_err-read_row-clause-fault : goal.returns-in_err-read_row-clause-fault
+returns-in_err-read_row-clause-fault g c = if_err_handed c.from_residual.result _ c.in_err-read_row.field-0.0 c.from_residual.ensures.1 c.in_err-read_row.ensures.fault
+
+pub returns-in_err-read_row-clause-cause : goal.returns-in_err-read_row-clause-cause
+returns-in_err-read_row-clause-cause g c = cause_here (g.B.Ground.faults c.args.blocks.now) (g.B.Ground.faults c.read_row.new.blocks) c.from_residual.result c.in_err-read_row.field-0.0 c.from_residual.ensures.1 c.in_err-read_row.ensures.cause
+
+pub returns-in_err-read_row-clause-kept : goal.returns-in_err-read_row-clause-kept
+returns-in_err-read_row-clause-kept g c = c.in_err-read_row.ensures.kept
+
+pub returns-clause-kept : goal.returns-clause-kept
+returns-clause-kept g c = c.in_ok-read_row.ensures.kept

@@ -1,6 +1,7 @@
 use Rattle.std.proofs.Common.{◌≡◌, List, Some, slice_get, arith, refl, subst}
 use Rattle.trees.specs.declared.Pair.{Pair}
 use Rattle.trees.proofs.Parts.{rise_at, not_half, next_half, all_half}
+use Rattle.std.proofs.lemmas.Bool.{false≢true}
 use Rattle.trees.proofs.lent_nodes.are_half_full.Goals as goal
 use Rattle.trees.proofs.lent_nodes.are_half_full.Goals.{then-size-full-via-then-size-full, then-size-full-via-else-size-full+then-size-full-2}
 
@@ -9,11 +10,11 @@ overflow_sub-size c = omega (arith, c.loop-index.invariant.start, rise_at 0 c.ar
 
 pub returns-then-size-full : goal.returns-then-size-full
 returns-then-size-full c = (
-  λ e. absurd cc,
+  λ e. absurd (false≢true e),
   λ all. absurd (not_half c.args.full c.args.node.now.pairs c.loop-index.index c.loop-index.before c.at-count.result c.loop-index.invariant (subst (λ (pairs : List Pair). slice_get pairs c.loop-index.index ≡ Some c.at-count.result) c.pairs-pairs.ensures c.at-count.ensures)
       (λ low high. elim c.then-size-full.branch [
-        | then-size-full-via-then-size-full w ↦ omega (arith, w.if-size-full.true)
-        | then-size-full-via-else-size-full+then-size-full-2 w ↦ omega (arith, w.if-size-full-2.true)
+        | then-size-full-via-then-size-full w ↦ omega (arith, w.if-size-full.true, low)
+        | then-size-full-via-else-size-full+then-size-full-2 w ↦ omega (arith, w.if-size-full-2.true, high)
       ]) all),
 )
 

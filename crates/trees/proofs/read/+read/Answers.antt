@@ -1,4 +1,4 @@
-use Rattle.std.proofs.Common.{arith, rules, [], ◌∷◌, ◌≡◌, ◌+◌, ◌-◌, ◌≤◌, ◌∙◌, ap, sym, subst, length, min, drop, get_or}
+use Rattle.std.proofs.Common.{arith, rules, [], ◌∷◌, ◌≡◌, ◌+◌, ◌-◌, ◌≤◌, ◌∙◌, ap, sym, subst, length, min, drop, get_or, take}
 use Rattle.std.proofs.lemmas.List.{length-take-le, length-drop}
 use Rattle.std.proofs.lemmas.Result.{IfErr-weaker, on_ok_weaker}
 use Rattle.ex_base.specs.Area.{NamesLeaf}
@@ -9,9 +9,15 @@ use Rattle.trees.specs.Damage.{IsSoundWay, IsWalkFault}
 use Rattle.trees.proofs.Ways.{way_inner, way_kept}
 use Rattle.trees.proofs.SpanLaws.{span_fault, span_way}
 use Rattle.trees.proofs.Reading.{no_part}
-use Rattle.trees.proofs.RowReads.{ReadSoFar, node_read, read_more, read_past, part_put, walk_tree}
-use Rattle.trees.proofs.Blame.{walk_back, walk_below}
+use Rattle.trees.proofs.RowReads.{ReadSoFar, node_read, read_more, read_past, part_put, walk_tree, leaf_read, leaf_way, leaf_walk, bytes_all, way_all, read_none}
+use Rattle.trees.proofs.Blame.{walk_back, walk_below, walk_node}
 use Rattle.trees.proofs.read.+read.Goals.{read_row-then-n-ne0+in_ok-read_tree, read_row-else-n-ne0}
+use Rattle.ex_base.specs.declared.geometry.Geometry.{Geometry}
+use Rattle.ex_base.proofs.Keeping.{keeps_on}
+use Rattle.ex_base.proofs.Handed.{not_given, cause_here, cause_of, handed_after}
+use Rattle.ex_base.specs.Sizes.{leaf_bytes}
+use Rattle.ex_base.proofs.Each.{each_at}
+use Rattle.trees.specs.declared.rows.Part.{Part}
 use Rattle.trees.proofs.read.+read.Goals as goal
 
 pub read_row-returns-in_err-read_tree-clause-fault : goal.read_row-returns-in_err-read_tree-clause-fault
@@ -76,3 +82,78 @@ read_tree-returns-clause-fault g t c =
     (walk_back b c.args.blocks.now c.span_of.new.blocks (c.args.level - 1) (b.geometry c.args.blocks.now).fan c.in_ok-span.span.row.items fault c.in_ok-span.ensures.kept
     (λ later. subst (λ fan. IsWalkFault (b.geometry c.span_of.new.blocks) (b.unit c.span_of.new.blocks) (c.args.level - 1) fan c.in_ok-span.span.row.items fault) (ap (λ geo. geo.fan) (c.geometry-fan.ensures ∙ b.leads_geometry c.args.blocks.now c.span_of.new.blocks c.in_ok-span.ensures.kept.leads))
     (subst (λ r. IsWalkFault (b.geometry c.span_of.new.blocks) (b.unit c.span_of.new.blocks) (c.args.level - 1) c.geometry-fan.result.fan r fault) c.deref.ensures.value (read later))) told))) c.read_row.ensures.fault
+
+pub read_row-read_tree-requires : goal.read_row-read_tree-requires
+read_row-read_tree-requires g t c κs within =
+    let ready = g.B.Ground.leads_ready c.args.blocks.now c.loop-part.blocks c.loop-part.invariant.kept.leads c.requires.ready in
+    let len : length (take (c.loop-part.done + c.min-n.result - c.loop-part.done) (drop c.loop-part.done c.loop-part.out)) ≡ c.loop-part.done + c.min-n.result - c.loop-part.done =
+    length-take-le (c.loop-part.done + c.min-n.result - c.loop-part.done) (drop c.loop-part.done c.loop-part.out) (omega (arith, length-drop c.loop-part.done c.loop-part.out, c.min-n.ensures)) in
+    let some : 1 ≤ length (take (c.loop-part.done + c.min-n.result - c.loop-part.done) (drop c.loop-part.done c.loop-part.out)) = omega (arith, len, c.if-n-ne0.true) in
+    let range : length (take (c.loop-part.done + c.min-n.result - c.loop-part.done) (drop c.loop-part.done c.loop-part.out)) ≤ (get_or c.args.row.now c.loop-part.part-index no_part).size - c.loop-part.at = omega (arith, len, c.min-n.ensures, c.saturating_sub.ensures) in
+    let leaf : FitLeaves (g.B.Ground.geometry c.loop-part.blocks) c.args.level (get_or c.args.row.now c.loop-part.part-index no_part ∷ []) =
+    λ low. (
+      subst (λ (geo : Geometry). (get_or c.args.row.now c.loop-part.part-index no_part).size ≤ leaf_bytes geo) (sym (g.B.Ground.leads_geometry c.args.blocks.now c.loop-part.blocks c.loop-part.invariant.kept.leads))
+          (each_at (λ (part : Part). part.size ≤ leaf_bytes (g.B.Ground.geometry c.args.blocks.now)) c.args.row.now c.loop-part.part-index no_part c.loop-part-test.true (c.requires.leaves low)),
+      tt,
+    ) in
+    search rules
+
+pub read_row-loop-part-init : goal.read_row-loop-part-init
+read_row-loop-part-init g t c = read_none g.B.Ground c.args.blocks.now c.args.level c.args.least c.args.row.now c.args.pos c.args.out.now
+
+pub read_tree-geometry-fan-requires : goal.read_tree-geometry-fan-requires
+read_tree-geometry-fan-requires g t c = record { ready = g.B.Ground.leads_ready c.args.blocks.now c.span_of.new.blocks c.in_ok-span.ensures.kept.leads c.requires.ready }
+
+pub read_row-returns-in_err-read_tree-clause-bytes : goal.read_row-returns-in_err-read_tree-clause-bytes
+read_row-returns-in_err-read_tree-clause-bytes g t c = not_given c.from_residual.result _ c.in_err-read_tree.field-0.0 c.from_residual.ensures.1
+
+pub read_row-returns-in_err-read_tree-clause-way : goal.read_row-returns-in_err-read_tree-clause-way
+read_row-returns-in_err-read_tree-clause-way g t c = not_given c.from_residual.result _ c.in_err-read_tree.field-0.0 c.from_residual.ensures.1
+
+pub read_row-returns-in_err-read_tree-clause-kept : goal.read_row-returns-in_err-read_tree-clause-kept
+read_row-returns-in_err-read_tree-clause-kept g t c = keeps_on g.B.Ground c.args.blocks.now c.loop-part.blocks c.read_tree.new.blocks c.loop-part.invariant.kept c.in_err-read_tree.ensures.kept
+
+pub read_row-returns-in_err-read_tree-clause-cause : goal.read_row-returns-in_err-read_tree-clause-cause
+read_row-returns-in_err-read_tree-clause-cause g t c = handed_after g.B.Ground c.args.blocks.now c.loop-part.blocks c.loop-part.invariant.kept.leads c.read_tree.new.blocks c.from_residual.result c.in_err-read_tree.field-0.0 c.from_residual.ensures.1 c.in_err-read_tree.ensures.cause
+
+pub read_row-returns-clause-bytes : goal.read_row-returns-clause-bytes
+read_row-returns-clause-bytes g t c = bytes_all g.B.Ground c.args.blocks.now c.loop-part.blocks c.args.level c.args.least c.args.row.now c.args.pos c.args.out.now c.loop-part.out c.loop-part.part-index c.loop-part.at c.loop-part.done (omega (arith, c.loop-part-test.false)) c.requires.range c.loop-part.invariant
+
+pub read_row-returns-clause-way : goal.read_row-returns-clause-way
+read_row-returns-clause-way g t c = way_all g.B.Ground c.args.blocks.now c.loop-part.blocks c.args.level c.args.least c.args.row.now c.args.pos c.args.out.now c.loop-part.out c.loop-part.part-index c.loop-part.at c.loop-part.done (omega (arith, c.loop-part-test.false)) c.requires.range c.loop-part.invariant
+
+pub read_tree-returns-in_err-span-clause-bytes : goal.read_tree-returns-in_err-span-clause-bytes
+read_tree-returns-in_err-span-clause-bytes g t c = not_given c.from_residual.result _ c.in_err-span.field-0.0 c.from_residual.ensures.1
+
+pub read_tree-returns-in_err-span-clause-way : goal.read_tree-returns-in_err-span-clause-way
+read_tree-returns-in_err-span-clause-way g t c = not_given c.from_residual.result _ c.in_err-span.field-0.0 c.from_residual.ensures.1
+
+pub read_tree-returns-in_err-span-clause-kept : goal.read_tree-returns-in_err-span-clause-kept
+read_tree-returns-in_err-span-clause-kept g t c = c.in_err-span.ensures.kept
+
+pub read_tree-returns-in_err-span-clause-cause : goal.read_tree-returns-in_err-span-clause-cause
+read_tree-returns-in_err-span-clause-cause g t c = cause_here (g.B.Ground.faults c.args.blocks.now) (g.B.Ground.faults c.span_of.new.blocks) c.from_residual.result c.in_err-span.field-0.0 c.from_residual.ensures.1 c.in_err-span.ensures.cause
+
+pub read_tree-returns-in_err-span-clause-fault : goal.read_tree-returns-in_err-span-clause-fault
+read_tree-returns-in_err-span-clause-fault g t c = if_err_handed c.from_residual.result _ c.in_err-span.field-0.0 c.from_residual.ensures.1 (λ told. walk_node (g.B.Ground.geometry c.args.blocks.now) (g.B.Ground.unit c.args.blocks.now) c.args.level c.args.least 0 (c.args.tree ∷ []) c.in_err-span.field-0.0 c.if-level-eq0.false (omega arith) (c.in_err-span.ensures.fault told))
+
+pub read_tree-returns-clause-kept : goal.read_tree-returns-clause-kept
+read_tree-returns-clause-kept g t c = keeps_on g.B.Ground c.args.blocks.now c.span_of.new.blocks c.read_row.new.blocks c.in_ok-span.ensures.kept c.read_row.ensures.kept
+
+pub read_tree-returns-clause-cause : goal.read_tree-returns-clause-cause
+read_tree-returns-clause-cause g t c = cause_of g.B.Ground c.args.blocks.now c.span_of.new.blocks c.in_ok-span.ensures.kept.leads c.read_row.new.blocks c.read_row.result c.read_row.ensures.cause
+
+pub read_tree-returns-then-level-eq0-clause-bytes : goal.read_tree-returns-then-level-eq0-clause-bytes
+read_tree-returns-then-level-eq0-clause-bytes g t c = on_ok_weaker c.read_leaf.result (λ read told trees. leaf_read (g.B.Ground.unit c.args.blocks.now) c.args.level (length c.args.out.now) c.args.pos c.args.tree c.read_leaf.new.out c.if-level-eq0.true c.requires.range (read told)) c.read_leaf.ensures.bytes
+
+pub read_tree-returns-then-level-eq0-clause-way : goal.read_tree-returns-then-level-eq0-clause-way
+read_tree-returns-then-level-eq0-clause-way g t c = on_ok_weaker c.read_leaf.result (λ named told byte low high. leaf_way (g.B.Ground.geometry c.args.blocks.now) (g.B.Ground.unit c.args.blocks.now) c.args.level c.args.least c.args.tree byte byte c.if-level-eq0.true named) c.read_leaf.ensures.named
+
+pub read_tree-returns-then-level-eq0-clause-fault : goal.read_tree-returns-then-level-eq0-clause-fault
+read_tree-returns-then-level-eq0-clause-fault g t c = IfErr-weaker c.read_leaf.result _ _ (λ fault h told. leaf_walk (g.B.Ground.geometry c.args.blocks.now) (g.B.Ground.unit c.args.blocks.now) c.args.level c.args.least c.args.tree fault c.if-level-eq0.true h) c.read_leaf.ensures.fault
+
+pub read_tree-returns-then-level-eq0-clause-kept : goal.read_tree-returns-then-level-eq0-clause-kept
+read_tree-returns-then-level-eq0-clause-kept g t c = c.read_leaf.ensures.kept
+
+pub read_tree-returns-then-level-eq0-clause-cause : goal.read_tree-returns-then-level-eq0-clause-cause
+read_tree-returns-then-level-eq0-clause-cause g t c = c.read_leaf.ensures.cause

@@ -1,9 +1,9 @@
-use Rattle.std.proofs.Common.{◌≡◌, ℕ, ◌+◌, ◌*◌, List, ap, sym, subst, ◌∙◌, arith}
+use Rattle.std.proofs.Common.{◌≡◌, ℕ, ◌+◌, ◌*◌, List, ap, sym, subst, ◌∙◌, arith, ◌≤◌, length, rules}
 use Rattle.ex_base.specs.Fields.{number_at}
 use Rattle.trees.specs.declared.rows.Part.{Part}
 use Rattle.trees.specs.Node.{count_len, pair_len}
-use Rattle.trees.proofs.PairLaws.{stops}
-use Rattle.trees.proofs.Rising.{RowSoFar, row_more}
+use Rattle.trees.proofs.PairLaws.{stops, pair_inside}
+use Rattle.trees.proofs.Rising.{RowSoFar, row_more, row_all}
 use Rattle.trees.proofs.reads.rising_row.Goals as goal
 
 pub push_reserved-requires : goal.push_reserved-requires
@@ -27,3 +27,30 @@ loop-i-preserved c =
       omega (arith, c.push_reserved.ensures.len, c.loop-i.invariant.1),
       c.push_reserved.ensures.capacity ∙ c.loop-i.invariant.2,
     )
+
+pub overflow_mul-at : goal.overflow_mul-at
+overflow_mul-at c =
+    let inside : c.pair_len.result * c.loop-i.i + pair_len c.args.width ≤ length c.args.bytes.now = omega (arith, ap (λ (k : ℕ). k * c.loop-i.i) c.pair_len.ensures, pair_inside c.args.width c.args.n c.loop-i.i c.loop-i-test.true, c.requires) in
+    search rules
+
+pub overflow_add-at : goal.overflow_add-at
+overflow_add-at c =
+    let inside : c.pair_len.result * c.loop-i.i + pair_len c.args.width ≤ length c.args.bytes.now = omega (arith, ap (λ (k : ℕ). k * c.loop-i.i) c.pair_len.ensures, pair_inside c.args.width c.args.n c.loop-i.i c.loop-i-test.true, c.requires) in
+    let len = c.count_len.ensures in
+    search rules
+
+pub count-count-requires : goal.count-count-requires
+count-count-requires c =
+    let inside : c.pair_len.result * c.loop-i.i + pair_len c.args.width ≤ length c.args.bytes.now = omega (arith, ap (λ (k : ℕ). k * c.loop-i.i) c.pair_len.ensures, pair_inside c.args.width c.args.n c.loop-i.i c.loop-i-test.true, c.requires) in
+    omega (arith, inside)
+
+pub get_u32-requires : goal.get_u32-requires
+get_u32-requires c =
+    let inside : c.pair_len.result * c.loop-i.i + pair_len c.args.width ≤ length c.args.bytes.now = omega (arith, ap (λ (k : ℕ). k * c.loop-i.i) c.pair_len.ensures, pair_inside c.args.width c.args.n c.loop-i.i c.loop-i-test.true, c.requires) in
+    omega (arith, inside, c.count_len.ensures)
+
+pub returns-clause-rise : goal.returns-clause-rise
+returns-clause-rise c = (row_all c.args.width c.args.n c.loop-i.i c.loop-i.last c.args.bytes.now c.loop-i.row.items c.loop-i-test.false c.loop-i.invariant.0).0
+
+pub returns-clause-row : goal.returns-clause-row
+returns-clause-row c = (row_all c.args.width c.args.n c.loop-i.i c.loop-i.last c.args.bytes.now c.loop-i.row.items c.loop-i-test.false c.loop-i.invariant.0).1

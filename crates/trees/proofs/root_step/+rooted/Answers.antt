@@ -2,7 +2,7 @@ use Rattle.std.proofs.Common.{rules, arith, length, ap, suc, ◌+◌, ◌-◌, �
 use Rattle.ex_base.specs.declared.geometry.Geometry.{Geometry}
 use Rattle.ex_base.specs.declared.names.Area.TheVariants.{Page}
 use Rattle.ex_base.specs.Sizes.{object_most}
-use Rattle.ex_base.proofs.Results.{on_ok_both}
+use Rattle.ex_base.proofs.Results.{on_ok_both, if_err_handed, on_ok_from}
 use Rattle.trees.specs.Split.{nodes_for}
 use Rattle.trees.specs.declared.rows.Part.{Part}
 use Rattle.trees.specs.Rows.{row_size}
@@ -12,6 +12,9 @@ use Rattle.trees.specs.Grown.{IsRooted}
 use Rattle.trees.proofs.Reading.{no_part}
 use Rattle.trees.proofs.Paid.{some_node, half_as_many, rise_on, root_free, roots_free, roots_paid}
 use Rattle.trees.proofs.RootSteps.{root_here, root_above, built_holds}
+use Rattle.std.proofs.lemmas.Result.{on_ok_weaker, IfOk-weaker}
+use Rattle.ex_base.proofs.Handed.{no_value, not_given, cause_here, cause_of}
+use Rattle.trees.proofs.Laid.{extends_refl, extends_on}
 use Rattle.trees.proofs.root_step.+rooted.Goals as goal
 
 if_ok_with : {X E : Type 0} (r : Result X E) (A : Type 0) (P Q : X → Type 0) → ((x : X) → A → P x → Q x) → OnOk r A → IfOk r P → IfOk r Q
@@ -96,3 +99,60 @@ returns-clause-pages g t c =
     (subst (λ n. 2 ≤ n → (g.B.Ground.geometry c.args.blocks.now).fan * g.B.Ground.free c.nodes_over.new.blocks Page + 2 ≤ n + (g.B.Ground.geometry c.args.blocks.now).fan + (g.B.Ground.geometry c.args.blocks.now).fan * g.B.Ground.free c.rooted.new.blocks Page) count
     (subst (λ (k : Geometry). 2 ≤ length c.deref.result.now → k.fan * g.B.Ground.free c.nodes_over.new.blocks Page + 2 ≤ length c.deref.result.now + k.fan + k.fan * g.B.Ground.free c.rooted.new.blocks Page) geo rest)) in
     on_ok_both c.rooted.result _ _ _ (λ lone rest again. paid lone rest) c.rooted.ensures.lone c.rooted.ensures.pages
+
+pub returns-clause-extends : goal.returns-clause-extends
+returns-clause-extends g t c = on_ok_weaker c.rooted.result (extends_on g.B.Ground c.args.blocks.now c.nodes_over.new.blocks c.rooted.new.blocks c.in_ok-above.ensures.extends) c.rooted.ensures.extends
+
+pub returns-clause-leads : goal.returns-clause-leads
+returns-clause-leads g t c = g.B.Ground.leads_trans c.args.blocks.now c.nodes_over.new.blocks c.rooted.new.blocks c.in_ok-above.ensures.leads c.rooted.ensures.leads
+
+pub returns-clause-cause : goal.returns-clause-cause
+returns-clause-cause g t c = cause_of g.B.Ground c.args.blocks.now c.nodes_over.new.blocks c.in_ok-above.ensures.leads c.rooted.new.blocks c.rooted.result c.rooted.ensures.cause
+
+pub returns-clause-leaves : goal.returns-clause-leaves
+returns-clause-leaves g t c = on_ok_weaker c.rooted.result (λ same. omega (arith, same, c.in_ok-above.ensures.spent.of_leaves)) c.rooted.ensures.leaves
+
+pub returns-clause-size : goal.returns-clause-size
+returns-clause-size g t c = IfOk-weaker c.rooted.result _ _ (λ root is. is ∙ ap row_size c.deref.ensures.value ∙ c.in_ok-above.ensures.sum) c.rooted.ensures.size
+
+pub returns-clause-lone : goal.returns-clause-lone
+returns-clause-lone g t c = on_ok_from c.rooted.result _ (λ root is one. absurd (c.if-row-eq1.false one))
+
+pub returns-clause-no_damage : goal.returns-clause-no_damage
+returns-clause-no_damage g t c = c.rooted.ensures.no_damage
+
+pub returns-then-row-eq1-clause-extends : goal.returns-then-row-eq1-clause-extends
+returns-then-row-eq1-clause-extends g t c = extends_refl g.B.Ground c.args.blocks.now
+
+pub returns-then-row-eq1-clause-leads : goal.returns-then-row-eq1-clause-leads
+returns-then-row-eq1-clause-leads g t c = g.B.Ground.leads_refl c.args.blocks.now
+
+pub returns-then-row-eq1-clause-size : goal.returns-then-row-eq1-clause-size
+returns-then-row-eq1-clause-size g t c = omega (arith, ap row_size (alone c.args.row.now c.if-row-eq1.true))
+
+pub returns-in_err-above-clause-extends : goal.returns-in_err-above-clause-extends
+returns-in_err-above-clause-extends g t c = not_given c.from_residual.result _ c.in_err-above.field-0.0 c.from_residual.ensures.1
+
+pub returns-in_err-above-clause-size : goal.returns-in_err-above-clause-size
+returns-in_err-above-clause-size g t c = no_value c.from_residual.result _ c.in_err-above.field-0.0 c.from_residual.ensures.1
+
+pub returns-in_err-above-clause-rooted : goal.returns-in_err-above-clause-rooted
+returns-in_err-above-clause-rooted g t c = no_value c.from_residual.result _ c.in_err-above.field-0.0 c.from_residual.ensures.1
+
+pub returns-in_err-above-clause-leaves : goal.returns-in_err-above-clause-leaves
+returns-in_err-above-clause-leaves g t c = not_given c.from_residual.result _ c.in_err-above.field-0.0 c.from_residual.ensures.1
+
+pub returns-in_err-above-clause-lone : goal.returns-in_err-above-clause-lone
+returns-in_err-above-clause-lone g t c = not_given c.from_residual.result _ c.in_err-above.field-0.0 c.from_residual.ensures.1
+
+pub returns-in_err-above-clause-pages : goal.returns-in_err-above-clause-pages
+returns-in_err-above-clause-pages g t c = not_given c.from_residual.result _ c.in_err-above.field-0.0 c.from_residual.ensures.1
+
+pub returns-in_err-above-clause-no_damage : goal.returns-in_err-above-clause-no_damage
+returns-in_err-above-clause-no_damage g t c = if_err_handed c.from_residual.result _ c.in_err-above.field-0.0 c.from_residual.ensures.1 c.in_err-above.ensures.no_damage
+
+pub returns-in_err-above-clause-leads : goal.returns-in_err-above-clause-leads
+returns-in_err-above-clause-leads g t c = c.in_err-above.ensures.leads
+
+pub returns-in_err-above-clause-cause : goal.returns-in_err-above-clause-cause
+returns-in_err-above-clause-cause g t c = cause_here (g.B.Ground.faults c.args.blocks.now) (g.B.Ground.faults c.nodes_over.new.blocks) c.from_residual.result c.in_err-above.field-0.0 c.from_residual.ensures.1 c.in_err-above.ensures.cause
