@@ -11,3 +11,4 @@ pub mod TakenOut
 pub mod LineageOrder
 pub mod MemberRuns
 pub mod RowsGathered
+pub mod Takings

@@ -1,4 +1,5 @@
 -- Records as they were read of the pages, and what is told of the places that their links name.
+use Rattle.std.proofs.lemmas.Bool.{false≢true}
 use Rattle.std.proofs.Common.{◌≡◌, ◌<◌, ◌⊎◌, ℕ, Bool, true, false, List, Option, Some, None, Result, Ok, Err, IfErr, refl, sym, ap, subst, ◌∙◌, inl, inr}
 use Rattle.std.specs.Prelude.{IfSome, IsSome, IsSomeAnd}
 use Rattle.ex_base.specs.declared.faults.PortFault.{PortFault}
@@ -140,7 +141,7 @@ module _ (image seen : ℕ → List ℕ) (same : seen ≡ image) (oid : Oid) (wa
 pub other_state : (image : ℕ → List ℕ) (oid : Oid) (was : Stored) (state : State) (test : Bool) → IsVersionOn image oid was → (was.head.state ≡ state → test ≡ true) → test ≡ false → (head_in was.body.items).state ≡ state → ⊥
 other_state image oid was state test v holds isnt is = absurd (
     let so : test ≡ true = holds (subst (λ (h : Head). h.state ≡ state) (sym v.read.head) is) in
-    let other : test ≡ false = isnt in cc)
+    let other : test ≡ false = isnt in false≢true (sym other ∙ so))
 
 pub not_some : (link : Option Place) → link ≡ None → IsSome link → ⊥
 not_some None none some = absurd cc

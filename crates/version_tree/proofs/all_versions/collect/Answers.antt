@@ -11,6 +11,7 @@ use Rattle.versions.proofs.RowsListed.{IsListed}
 use Rattle.version_tree.specs.Lineage.{member_of}
 use Rattle.ex_base.proofs.Keeping.{keeps_on}
 use Rattle.version_tree.proofs.RowsGathered.{gathers_members}
+use Rattle.ex_base.proofs.Handed.{cause_after}
 use Rattle.version_tree.proofs.all_versions.collect.Goals as goal
 
 pub places-init : goal.places-init
@@ -66,3 +67,54 @@ returns-in-Err-collect_at-clause-fault g c = λ told. stepping c.places.after c.
 
 pub returns-in-Ok-None-clause-walk : goal.returns-in-Ok-None-clause-walk
 returns-in-Ok-None-clause-walk g c = λ told. walked_out g.V.Ground c.args.volume.now c.places.volume c.args.file_no c.places.after _ c.places.invariant.kept c.places.invariant.walked c.in-Ok-None.ensures.way c.in-Ok-None.field-0-is told
+
+pub returns-in-Ok-None-clause-sound : goal.returns-in-Ok-None-clause-sound
+returns-in-Ok-None-clause-sound g c = tt
+
+pub returns-in-Ok-None-clause-fault : goal.returns-in-Ok-None-clause-fault
+returns-in-Ok-None-clause-fault g c = tt
+
+pub returns-in-Ok-None-clause-cause : goal.returns-in-Ok-None-clause-cause
+returns-in-Ok-None-clause-cause g c = tt
+
+pub returns-in-Ok-None-clause-kept : goal.returns-in-Ok-None-clause-kept
+returns-in-Ok-None-clause-kept g c =
+    keeps_on g.V.Ground c.args.volume.now c.places.volume c.next_place.new.pages c.places.invariant.kept c.next_place.ensures.kept
+
+pub returns-in-Err-clause-members : goal.returns-in-Err-clause-members
+returns-in-Err-clause-members g c = tt
+
+pub returns-in-Err-collect_at-clause-members : goal.returns-in-Err-collect_at-clause-members
+returns-in-Err-collect_at-clause-members g c = tt
+
+pub returns-in-Err-clause-walk : goal.returns-in-Err-clause-walk
+returns-in-Err-clause-walk g c = tt
+
+pub returns-in-Err-collect_at-clause-walk : goal.returns-in-Err-collect_at-clause-walk
+returns-in-Err-collect_at-clause-walk g c = tt
+
+pub returns-in-Err-clause-kept : goal.returns-in-Err-clause-kept
+returns-in-Err-clause-kept g c = keeps_on g.V.Ground c.args.volume.now c.places.volume c.next_place.new.pages c.places.invariant.kept c.next_place.ensures.kept
+
+pub returns-in-Err-clause-cause : goal.returns-in-Err-clause-cause
+returns-in-Err-clause-cause g c =
+    cause_after g.V.Ground c.args.volume.now c.places.volume c.places.invariant.kept.leads c.next_place.new.pages c.in-Err.fault c.in-Err.ensures.cause
+
+pub returns-in-Err-collect_at-clause-kept : goal.returns-in-Err-collect_at-clause-kept
+returns-in-Err-collect_at-clause-kept g c =
+    keeps_on g.V.Ground c.args.volume.now c.next_place.new.pages c.collect_at.new.volume
+    (keeps_on g.V.Ground c.args.volume.now c.places.volume c.next_place.new.pages c.places.invariant.kept c.next_place.ensures.kept) c.collect_at.ensures.kept
+
+pub returns-in-Err-collect_at-clause-cause : goal.returns-in-Err-collect_at-clause-cause
+returns-in-Err-collect_at-clause-cause g c =
+    cause_after g.V.Ground c.args.volume.now c.next_place.new.pages
+    (keeps_on g.V.Ground c.args.volume.now c.places.volume c.next_place.new.pages c.places.invariant.kept c.next_place.ensures.kept).leads
+    c.collect_at.new.volume c.in-Err-collect_at.fault c.in-Err-collect_at.ensures.cause
+
+pub next_place-requires : goal.next_place-requires
+next_place-requires g c = g.V.Ground.leads_ready c.args.volume.now c.places.volume c.places.invariant.kept.leads c.requires
+
+pub collect_at-requires : goal.collect_at-requires
+collect_at-requires g c =
+    g.V.Ground.leads_ready c.args.volume.now c.next_place.new.pages
+    (keeps_on g.V.Ground c.args.volume.now c.places.volume c.next_place.new.pages c.places.invariant.kept c.next_place.ensures.kept).leads c.requires

@@ -15,6 +15,8 @@ use Rattle.version_tree.specs.Links.{IsWalkFault, IsWalkedFrom, of_body, of_vers
 use Rattle.version_tree.specs.declared.lineage.Member.{Member}
 use Rattle.version_tree.proofs.RowsGathered.{linked_readable}
 use Rattle.version_tree.proofs.Linking.{head_read, kept_linked, linked_limits}
+use Rattle.ex_base.proofs.Handed.{no_value, not_given, cause_here, handed_after}
+use Rattle.ex_base.proofs.Keeping.{keeps_on}
 use Rattle.version_tree.proofs.all_versions.versions.Goals as goal
 
 pub returns-in_err-version-clause-sound : goal.returns-in_err-version-clause-sound
@@ -73,3 +75,42 @@ returns-clause-reads g c = ok_of c.list_members.result _ (λ told.
       holds = subst (λ (p : Place). IsWalkedFrom (g.V.Ground.geometry c.args.volume.now) (g.V.Ground.image c.args.volume.now) p) v.read.at
           (carried g.V.Ground c.args.volume.now c.stored_version.new.volume (λ y u. IsWalkedFrom y u c.in_ok-version.version.place) c.stored_version.ensures.kept c.in_ok-members.ensures.walk told);
     })
+
+pub returns-in_err-version-clause-oids : goal.returns-in_err-version-clause-oids
+returns-in_err-version-clause-oids g c = no_value c.from_residual.result _ c.in_err-version.field-0.0 c.from_residual.ensures.1
+
+pub returns-in_err-version-clause-reads : goal.returns-in_err-version-clause-reads
+returns-in_err-version-clause-reads g c = not_given c.from_residual.result _ c.in_err-version.field-0.0 c.from_residual.ensures.1
+
+pub returns-in_err-version-clause-kept : goal.returns-in_err-version-clause-kept
+returns-in_err-version-clause-kept g c = c.stored_version.ensures.kept
+
+pub returns-in_err-version-clause-cause : goal.returns-in_err-version-clause-cause
+returns-in_err-version-clause-cause g c =
+    cause_here (g.V.Ground.faults c.args.volume.now) (g.V.Ground.faults c.stored_version.new.volume) c.from_residual.result c.in_err-version.field-0.0
+    c.from_residual.ensures.1 c.in_err-version.ensures.cause
+
+pub returns-in_err-members-clause-oids : goal.returns-in_err-members-clause-oids
+returns-in_err-members-clause-oids g c = no_value c.from_residual-in_err-members.result _ c.in_err-members.field-0.0 c.from_residual-in_err-members.ensures.1
+
+pub returns-in_err-members-clause-reads : goal.returns-in_err-members-clause-reads
+returns-in_err-members-clause-reads g c = not_given c.from_residual-in_err-members.result _ c.in_err-members.field-0.0 c.from_residual-in_err-members.ensures.1
+
+pub returns-in_err-members-clause-kept : goal.returns-in_err-members-clause-kept
+returns-in_err-members-clause-kept g c =
+    keeps_on g.V.Ground c.args.volume.now c.stored_version.new.volume c.members_of.new.volume c.stored_version.ensures.kept c.members_of.ensures.kept
+
+pub returns-in_err-members-clause-cause : goal.returns-in_err-members-clause-cause
+returns-in_err-members-clause-cause g c =
+    handed_after g.V.Ground c.args.volume.now c.stored_version.new.volume c.stored_version.ensures.kept.leads c.members_of.new.volume
+    c.from_residual-in_err-members.result c.in_err-members.field-0.0 c.from_residual-in_err-members.ensures.1 c.in_err-members.ensures.cause
+
+pub returns-clause-kept : goal.returns-clause-kept
+returns-clause-kept g c =
+    keeps_on g.V.Ground c.args.volume.now c.stored_version.new.volume c.members_of.new.volume c.stored_version.ensures.kept c.members_of.ensures.kept
+
+pub stored_version-requires : goal.stored_version-requires
+stored_version-requires g c = c.requires
+
+pub members_of-requires : goal.members_of-requires
+members_of-requires g c = g.V.Ground.leads_ready c.args.volume.now c.stored_version.new.volume c.stored_version.ensures.kept.leads c.requires

@@ -19,6 +19,7 @@ use Rattle.version_tree.specs.declared.links.Stored.{Stored}
 use Rattle.version_tree.proofs.RowsGathered.{linked_readable, one_derived}
 use Rattle.version_tree.proofs.Linking.{kept_linked, linked_limits}
 use Rattle.version_tree.proofs.ReadPlaces.{newer_read, newer_told, none_named, not_some, some_named}
+use Rattle.ex_base.proofs.Handed.{no_value, not_given, cause_here, handed_after, cause_of}
 use Rattle.version_tree.proofs.descent.derived.Goals as goal
 
 pub returns-in_err-version-clause-sound : goal.returns-in_err-version-clause-sound
@@ -121,3 +122,71 @@ returns-clause-fault g c = IfErr-weaker c.list_by_number.result _ _ (λ fault h 
     of_body c.in_ok-version.version.body.items v.read.stands (by_walk (ap (λ (b : Head). b.newer) (sym v.read.head) ∙ none)
     (subst (λ (p : Place). IsWalkFault (g.V.Ground.geometry c.args.volume.now) (g.V.Ground.image c.args.volume.now) p fault) v.read.at
     (carried g.V.Ground c.args.volume.now c.linked_newer.new.volume (λ y u. IsWalkFault y u c.in_ok-version.version.place fault) kept h told)))) c.list_by_number.ensures.fault
+
+pub returns-in_err-version-clause-oids : goal.returns-in_err-version-clause-oids
+returns-in_err-version-clause-oids g c = no_value c.from_residual.result _ c.in_err-version.field-0.0 c.from_residual.ensures.1
+
+pub returns-in_err-version-clause-reads : goal.returns-in_err-version-clause-reads
+returns-in_err-version-clause-reads g c = not_given c.from_residual.result _ c.in_err-version.field-0.0 c.from_residual.ensures.1
+
+pub returns-in_err-version-clause-ordered : goal.returns-in_err-version-clause-ordered
+returns-in_err-version-clause-ordered g c = no_value c.from_residual.result _ c.in_err-version.field-0.0 c.from_residual.ensures.1
+
+pub returns-in_err-version-clause-kept : goal.returns-in_err-version-clause-kept
+returns-in_err-version-clause-kept g c = c.stored_version.ensures.kept
+
+pub returns-in_err-version-clause-cause : goal.returns-in_err-version-clause-cause
+returns-in_err-version-clause-cause g c =
+    cause_here (g.V.Ground.faults c.args.volume.now) (g.V.Ground.faults c.stored_version.new.volume) c.from_residual.result c.in_err-version.field-0.0
+    c.from_residual.ensures.1 c.in_err-version.ensures.cause
+
+pub returns-in_err-found-clause-oids : goal.returns-in_err-found-clause-oids
+returns-in_err-found-clause-oids g c = no_value c.from_residual-in_err-found.result _ c.in_err-found.field-0.0 c.from_residual-in_err-found.ensures.1
+
+pub returns-in_err-found-clause-reads : goal.returns-in_err-found-clause-reads
+returns-in_err-found-clause-reads g c = not_given c.from_residual-in_err-found.result _ c.in_err-found.field-0.0 c.from_residual-in_err-found.ensures.1
+
+pub returns-in_err-found-clause-ordered : goal.returns-in_err-found-clause-ordered
+returns-in_err-found-clause-ordered g c = no_value c.from_residual-in_err-found.result _ c.in_err-found.field-0.0 c.from_residual-in_err-found.ensures.1
+
+pub returns-in_err-found-clause-kept : goal.returns-in_err-found-clause-kept
+returns-in_err-found-clause-kept g c =
+    keeps_on g.V.Ground c.args.volume.now c.stored_version.new.volume c.linked_newer.new.volume c.stored_version.ensures.kept c.linked_newer.ensures.kept
+
+pub returns-in_err-found-clause-cause : goal.returns-in_err-found-clause-cause
+returns-in_err-found-clause-cause g c =
+    handed_after g.V.Ground c.args.volume.now c.stored_version.new.volume c.stored_version.ensures.kept.leads c.linked_newer.new.volume
+    c.from_residual-in_err-found.result c.in_err-found.field-0.0 c.from_residual-in_err-found.ensures.1 c.in_err-found.ensures.cause
+
+pub returns-in-Some-clause-kept : goal.returns-in-Some-clause-kept
+returns-in-Some-clause-kept g c =
+    keeps_on g.V.Ground c.args.volume.now c.stored_version.new.volume c.linked_newer.new.volume c.stored_version.ensures.kept c.linked_newer.ensures.kept
+
+pub returns-clause-kept : goal.returns-clause-kept
+returns-clause-kept g c =
+    keeps_on g.V.Ground c.args.volume.now c.linked_newer.new.volume c.list_by_number.new.volume
+    (keeps_on g.V.Ground c.args.volume.now c.stored_version.new.volume c.linked_newer.new.volume c.stored_version.ensures.kept c.linked_newer.ensures.kept)
+    c.list_by_number.ensures.kept
+
+pub returns-clause-cause : goal.returns-clause-cause
+returns-clause-cause g c =
+    cause_of g.V.Ground c.args.volume.now c.linked_newer.new.volume
+    (g.V.Ground.leads_trans c.args.volume.now c.stored_version.new.volume c.linked_newer.new.volume c.stored_version.ensures.kept.leads
+    c.linked_newer.ensures.kept.leads)
+    c.list_by_number.new.volume c.list_by_number.result c.list_by_number.ensures.cause
+
+pub stored_version-requires : goal.stored_version-requires
+stored_version-requires g c = c.requires
+
+pub linked_newer-requires : goal.linked_newer-requires
+linked_newer-requires g c = g.V.Ground.leads_ready c.args.volume.now c.stored_version.new.volume c.stored_version.ensures.kept.leads c.requires
+
+pub list_by_number-requires : goal.list_by_number-requires
+list_by_number-requires g c =
+    g.V.Ground.leads_ready c.args.volume.now c.linked_newer.new.volume
+    (g.V.Ground.leads_trans c.args.volume.now c.stored_version.new.volume c.linked_newer.new.volume c.stored_version.ensures.kept.leads
+    c.linked_newer.ensures.kept.leads)
+    c.requires
+
+pub returns-clause-ordered : goal.returns-clause-ordered
+returns-clause-ordered g c = c.list_by_number.ensures.ordered

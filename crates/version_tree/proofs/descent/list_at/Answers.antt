@@ -1,5 +1,12 @@
-use Rattle.std.proofs.lemmas.Result.{IfErr-weaker}
+use Rattle.std.proofs.lemmas.Result.{IfErr-weaker, on_ok_weaker}
 use Rattle.versions.specs.Damage.{own, unread}
+use Rattle.ex_base.proofs.Handed.{not_given, cause_here}
+use Rattle.ex_base.proofs.Keeping.{keeps_refl}
+use Rattle.std.proofs.Common.{◌++◌, ap, ◌∙◌, leb-false, arith}
+use Rattle.versions.proofs.Results.{ok_of}
+use Rattle.object_records.specs.declared.Head.{Head}
+use Rattle.version_tree.specs.Linked.{oids_by_link}
+use Rattle.std.proofs.lemmas.Bool.{leb-true}
 use Rattle.version_tree.proofs.descent.list_at.Goals as goal
 use Rattle.ex_base.proofs.Results.{if_err_handed}
 
@@ -20,3 +27,57 @@ returns-in_err-head-clause-sound g c = if_err_handed c.from_residual-in_err-head
 
 pub returns-in_err-head-clause-fault : goal.returns-in_err-head-clause-fault
 returns-in_err-head-clause-fault g c = if_err_handed c.from_residual-in_err-head.result _ _ c.from_residual-in_err-head.ensures.1 (λ told. c.in_err-head.ensures.fault told)
+
+pub returns-in_err-check-clause-listed : goal.returns-in_err-check-clause-listed
+returns-in_err-check-clause-listed g c = not_given c.from_residual.result _ c.in_err-check.field-0.0 c.from_residual.ensures.1
+
+pub returns-in_err-check-clause-rises : goal.returns-in_err-check-clause-rises
+returns-in_err-check-clause-rises g c = not_given c.from_residual.result _ c.in_err-check.field-0.0 c.from_residual.ensures.1
+
+pub returns-in_err-check-clause-short : goal.returns-in_err-check-clause-short
+returns-in_err-check-clause-short g c = not_given c.from_residual.result _ c.in_err-check.field-0.0 c.from_residual.ensures.1
+
+pub returns-in_err-check-clause-kept : goal.returns-in_err-check-clause-kept
+returns-in_err-check-clause-kept g c = keeps_refl g.V.Ground c.args.volume.now
+
+pub returns-in_err-check-clause-cause : goal.returns-in_err-check-clause-cause
+returns-in_err-check-clause-cause g c =
+    cause_here (g.V.Ground.faults c.args.volume.now) (g.V.Ground.faults c.args.volume.now) c.from_residual.result c.in_err-check.field-0.0
+    c.from_residual.ensures.1 (c.in_err-check.ensures.cause (g.V.Ground.faults c.args.volume.now) (g.V.Ground.faults c.args.volume.now))
+
+pub returns-in_err-head-clause-listed : goal.returns-in_err-head-clause-listed
+returns-in_err-head-clause-listed g c = not_given c.from_residual-in_err-head.result _ c.in_err-head.field-0.0 c.from_residual-in_err-head.ensures.1
+
+pub returns-in_err-head-clause-rises : goal.returns-in_err-head-clause-rises
+returns-in_err-head-clause-rises g c = not_given c.from_residual-in_err-head.result _ c.in_err-head.field-0.0 c.from_residual-in_err-head.ensures.1
+
+pub returns-in_err-head-clause-short : goal.returns-in_err-head-clause-short
+returns-in_err-head-clause-short g c = not_given c.from_residual-in_err-head.result _ c.in_err-head.field-0.0 c.from_residual-in_err-head.ensures.1
+
+pub returns-in_err-head-clause-kept : goal.returns-in_err-head-clause-kept
+returns-in_err-head-clause-kept g c = c.head_at.ensures.kept
+
+pub returns-in_err-head-clause-cause : goal.returns-in_err-head-clause-cause
+returns-in_err-head-clause-cause g c =
+    cause_here (g.V.Ground.faults c.args.volume.now) (g.V.Ground.faults c.head_at.new.volume) c.from_residual-in_err-head.result c.in_err-head.field-0.0
+    c.from_residual-in_err-head.ensures.1 c.in_err-head.ensures.cause
+
+pub returns-clause-kept : goal.returns-clause-kept
+returns-clause-kept g c = c.head_at.ensures.kept
+
+pub head_at-requires : goal.head_at-requires
+head_at-requires g c = c.requires
+
+pub returns-clause-listed : goal.returns-clause-listed
+returns-clause-listed g c = on_ok_weaker c.put_derived.result (λ put told index body has.
+    put ∙ ap (λ (h : Head). c.args.oids.now.items ++ oids_by_link c.args.from c.args.place h) (c.in_ok-head.ensures.head told index body has)) c.put_derived.ensures.put
+
+pub returns-clause-short : goal.returns-clause-short
+returns-clause-short g c = ok_of c.put_derived.result _ c.rank.ensures.short
+
+pub returns-clause-rises : goal.returns-clause-rises
+returns-clause-rises g c = ok_of c.put_derived.result _ (omega (arith, leb-true _ _ c.in_ok-check.ensures.holds, c.first_rank.ensures, c.rank.ensures.rank))
+
+pub returns-in_err-check-clause-sound : goal.returns-in_err-check-clause-sound
+returns-in_err-check-clause-sound g c = if_err_handed c.from_residual.result _ _ c.from_residual.ensures.1 (λ damage told le index body is has spelled.
+    omega (arith, le, leb-false _ _ c.in_err-check.ensures.fault.0, c.first_rank.ensures, c.rank.ensures.rank))

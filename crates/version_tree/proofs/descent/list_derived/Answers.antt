@@ -12,6 +12,7 @@ use Rattle.versions.proofs.RowsListed.{IsListed}
 use Rattle.version_tree.specs.Linked.{oids_from}
 use Rattle.ex_base.proofs.Keeping.{keeps_on}
 use Rattle.version_tree.proofs.RowsGathered.{by_link, gathers_derived}
+use Rattle.ex_base.proofs.Handed.{cause_after}
 use Rattle.version_tree.proofs.descent.list_derived.Goals as goal
 
 pub places-init : goal.places-init
@@ -67,3 +68,54 @@ returns-in-Err-list_at-clause-fault g c = λ told. stepping c.places.after c.in-
 
 pub returns-in-Ok-None-clause-walk : goal.returns-in-Ok-None-clause-walk
 returns-in-Ok-None-clause-walk g c = λ told. walked_out g.V.Ground c.args.volume.now c.places.volume c.args.file_no c.places.after _ c.places.invariant.kept c.places.invariant.walked c.in-Ok-None.ensures.way c.in-Ok-None.field-0-is told
+
+pub returns-in-Ok-None-clause-sound : goal.returns-in-Ok-None-clause-sound
+returns-in-Ok-None-clause-sound g c = tt
+
+pub returns-in-Ok-None-clause-fault : goal.returns-in-Ok-None-clause-fault
+returns-in-Ok-None-clause-fault g c = tt
+
+pub returns-in-Ok-None-clause-cause : goal.returns-in-Ok-None-clause-cause
+returns-in-Ok-None-clause-cause g c = tt
+
+pub returns-in-Ok-None-clause-kept : goal.returns-in-Ok-None-clause-kept
+returns-in-Ok-None-clause-kept g c =
+    keeps_on g.V.Ground c.args.volume.now c.places.volume c.next_place.new.pages c.places.invariant.kept c.next_place.ensures.kept
+
+pub returns-in-Err-clause-oids : goal.returns-in-Err-clause-oids
+returns-in-Err-clause-oids g c = tt
+
+pub returns-in-Err-list_at-clause-oids : goal.returns-in-Err-list_at-clause-oids
+returns-in-Err-list_at-clause-oids g c = tt
+
+pub returns-in-Err-clause-walk : goal.returns-in-Err-clause-walk
+returns-in-Err-clause-walk g c = tt
+
+pub returns-in-Err-list_at-clause-walk : goal.returns-in-Err-list_at-clause-walk
+returns-in-Err-list_at-clause-walk g c = tt
+
+pub returns-in-Err-clause-kept : goal.returns-in-Err-clause-kept
+returns-in-Err-clause-kept g c = keeps_on g.V.Ground c.args.volume.now c.places.volume c.next_place.new.pages c.places.invariant.kept c.next_place.ensures.kept
+
+pub returns-in-Err-clause-cause : goal.returns-in-Err-clause-cause
+returns-in-Err-clause-cause g c =
+    cause_after g.V.Ground c.args.volume.now c.places.volume c.places.invariant.kept.leads c.next_place.new.pages c.in-Err.fault c.in-Err.ensures.cause
+
+pub returns-in-Err-list_at-clause-kept : goal.returns-in-Err-list_at-clause-kept
+returns-in-Err-list_at-clause-kept g c =
+    keeps_on g.V.Ground c.args.volume.now c.next_place.new.pages c.list_at.new.volume
+    (keeps_on g.V.Ground c.args.volume.now c.places.volume c.next_place.new.pages c.places.invariant.kept c.next_place.ensures.kept) c.list_at.ensures.kept
+
+pub returns-in-Err-list_at-clause-cause : goal.returns-in-Err-list_at-clause-cause
+returns-in-Err-list_at-clause-cause g c =
+    cause_after g.V.Ground c.args.volume.now c.next_place.new.pages
+    (keeps_on g.V.Ground c.args.volume.now c.places.volume c.next_place.new.pages c.places.invariant.kept c.next_place.ensures.kept).leads
+    c.list_at.new.volume c.in-Err-list_at.fault c.in-Err-list_at.ensures.cause
+
+pub next_place-requires : goal.next_place-requires
+next_place-requires g c = g.V.Ground.leads_ready c.args.volume.now c.places.volume c.places.invariant.kept.leads c.requires
+
+pub list_at-requires : goal.list_at-requires
+list_at-requires g c =
+    g.V.Ground.leads_ready c.args.volume.now c.next_place.new.pages
+    (keeps_on g.V.Ground c.args.volume.now c.places.volume c.next_place.new.pages c.places.invariant.kept c.next_place.ensures.kept).leads c.requires

@@ -1,11 +1,13 @@
-use Rattle.std.proofs.Common.{ℕ, List, sym, ap, subst, arith, inl, inr}
+use Rattle.std.proofs.Common.{ℕ, List, sym, ap, subst, arith, inl, inr, ◌∙◌}
 use Rattle.ex_base.specs.declared.names.Area.{Area}
-use Rattle.ex_base.specs.declared.names.Area.TheVariants.{Page}
+use Rattle.ex_base.specs.declared.names.Area.TheVariants.{Page, Segment}
 use Rattle.ex_base.proofs.Results.{if_err_handed}
 use Rattle.object_records.specs.Record.{BodyOf}
 use Rattle.file_bodies.specs.Bodies.{bodies_of}
 use Rattle.version_tree.proofs.Copying.{just_stand}
 use Rattle.version_tree.proofs.Dropped.{drops, moved_fits, next_named, next_there, older_stays}
+use Rattle.ex_base.proofs.Handed.{not_given, no_value, cause_here, handed_after, cause_after}
+use Rattle.version_tree.proofs.Takings.{gives_before}
 use Rattle.version_tree.proofs.dropping.drop_read.Goals as goal
 
 pub returns-in-Ok-clause-dropped : goal.returns-in-Ok-clause-dropped
@@ -60,3 +62,131 @@ returns-in-Err-clause-fault g c = λ told.
     let told_b = g.V.Ground.leads_told c.args.volume.now c.remove_from_file.new.pages c.remove_from_file.ensures.leads told in
     let told_d = g.V.Ground.leads_told c.remove_from_file.new.pages c.put_head.new.volume c.put_head.ensures.leads told_b in
     inr (inr (c.in-Err.ensures.fault told_d))
+
+pub returns-in_err-remove_from_file-clause-dropped : goal.returns-in_err-remove_from_file-clause-dropped
+returns-in_err-remove_from_file-clause-dropped g c = not_given c.from_residual.result _ c.in_err-remove_from_file.field-0.0 c.from_residual.ensures.1
+
+pub returns-in_err-remove_from_file-clause-gone : goal.returns-in_err-remove_from_file-clause-gone
+returns-in_err-remove_from_file-clause-gone g c = no_value c.from_residual.result _ c.in_err-remove_from_file.field-0.0 c.from_residual.ensures.1
+
+pub returns-in_err-remove_from_file-clause-pages : goal.returns-in_err-remove_from_file-clause-pages
+returns-in_err-remove_from_file-clause-pages g c = not_given c.from_residual.result _ c.in_err-remove_from_file.field-0.0 c.from_residual.ensures.1
+
+pub returns-in_err-remove_from_file-clause-gives : goal.returns-in_err-remove_from_file-clause-gives
+returns-in_err-remove_from_file-clause-gives g c = not_given c.from_residual.result _ c.in_err-remove_from_file.field-0.0 c.from_residual.ensures.1
+
+pub returns-in_err-remove_from_file-clause-leaves : goal.returns-in_err-remove_from_file-clause-leaves
+returns-in_err-remove_from_file-clause-leaves g c = not_given c.from_residual.result _ c.in_err-remove_from_file.field-0.0 c.from_residual.ensures.1
+
+pub returns-in_err-remove_from_file-clause-touches : goal.returns-in_err-remove_from_file-clause-touches
+returns-in_err-remove_from_file-clause-touches g c = not_given c.from_residual.result _ c.in_err-remove_from_file.field-0.0 c.from_residual.ensures.1
+
+pub returns-in_err-remove_from_file-clause-leads : goal.returns-in_err-remove_from_file-clause-leads
+returns-in_err-remove_from_file-clause-leads g c = c.remove_from_file.ensures.leads
+
+pub returns-in_err-remove_from_file-clause-cause : goal.returns-in_err-remove_from_file-clause-cause
+returns-in_err-remove_from_file-clause-cause g c =
+    cause_here (g.V.Ground.faults c.args.volume.now) (g.V.Ground.faults c.remove_from_file.new.pages) c.from_residual.result
+    c.in_err-remove_from_file.field-0.0 c.from_residual.ensures.1 c.in_err-remove_from_file.ensures.cause
+
+pub returns-in_err-put_head-clause-dropped : goal.returns-in_err-put_head-clause-dropped
+returns-in_err-put_head-clause-dropped g c =
+    not_given c.from_residual-in_err-put_head.result _ c.in_err-put_head.field-0.0 c.from_residual-in_err-put_head.ensures.1
+
+pub returns-in_err-put_head-clause-gone : goal.returns-in_err-put_head-clause-gone
+returns-in_err-put_head-clause-gone g c =
+    no_value c.from_residual-in_err-put_head.result _ c.in_err-put_head.field-0.0 c.from_residual-in_err-put_head.ensures.1
+
+pub returns-in_err-put_head-clause-pages : goal.returns-in_err-put_head-clause-pages
+returns-in_err-put_head-clause-pages g c =
+    not_given c.from_residual-in_err-put_head.result _ c.in_err-put_head.field-0.0 c.from_residual-in_err-put_head.ensures.1
+
+pub returns-in_err-put_head-clause-gives : goal.returns-in_err-put_head-clause-gives
+returns-in_err-put_head-clause-gives g c =
+    not_given c.from_residual-in_err-put_head.result _ c.in_err-put_head.field-0.0 c.from_residual-in_err-put_head.ensures.1
+
+pub returns-in_err-put_head-clause-leaves : goal.returns-in_err-put_head-clause-leaves
+returns-in_err-put_head-clause-leaves g c =
+    not_given c.from_residual-in_err-put_head.result _ c.in_err-put_head.field-0.0 c.from_residual-in_err-put_head.ensures.1
+
+pub returns-in_err-put_head-clause-touches : goal.returns-in_err-put_head-clause-touches
+returns-in_err-put_head-clause-touches g c =
+    not_given c.from_residual-in_err-put_head.result _ c.in_err-put_head.field-0.0 c.from_residual-in_err-put_head.ensures.1
+
+pub returns-in_err-put_head-clause-leads : goal.returns-in_err-put_head-clause-leads
+returns-in_err-put_head-clause-leads g c =
+    g.V.Ground.leads_trans c.args.volume.now c.remove_from_file.new.pages c.put_head.new.volume c.remove_from_file.ensures.leads c.put_head.ensures.leads
+
+pub returns-in_err-put_head-clause-cause : goal.returns-in_err-put_head-clause-cause
+returns-in_err-put_head-clause-cause g c =
+    handed_after g.V.Ground c.args.volume.now c.remove_from_file.new.pages c.remove_from_file.ensures.leads c.put_head.new.volume
+    c.from_residual-in_err-put_head.result c.in_err-put_head.field-0.0 c.from_residual-in_err-put_head.ensures.1 c.in_err-put_head.ensures.cause
+
+pub returns-in-Ok-clause-sound : goal.returns-in-Ok-clause-sound
+returns-in-Ok-clause-sound g c = tt
+
+pub returns-in-Ok-clause-fault : goal.returns-in-Ok-clause-fault
+returns-in-Ok-clause-fault g c = tt
+
+pub returns-in-Ok-clause-leads : goal.returns-in-Ok-clause-leads
+returns-in-Ok-clause-leads g c =
+    g.V.Ground.leads_trans c.args.volume.now c.put_head.new.volume c.turn_older.new.volume
+    (g.V.Ground.leads_trans c.args.volume.now c.remove_from_file.new.pages c.put_head.new.volume c.remove_from_file.ensures.leads c.put_head.ensures.leads)
+    c.turn_older.ensures.leads
+
+pub returns-in-Ok-clause-cause : goal.returns-in-Ok-clause-cause
+returns-in-Ok-clause-cause g c = tt
+
+pub returns-in-Err-clause-dropped : goal.returns-in-Err-clause-dropped
+returns-in-Err-clause-dropped g c = tt
+
+pub returns-in-Err-clause-gone : goal.returns-in-Err-clause-gone
+returns-in-Err-clause-gone g c = tt
+
+pub returns-in-Err-clause-pages : goal.returns-in-Err-clause-pages
+returns-in-Err-clause-pages g c = tt
+
+pub returns-in-Err-clause-gives : goal.returns-in-Err-clause-gives
+returns-in-Err-clause-gives g c = tt
+
+pub returns-in-Err-clause-leaves : goal.returns-in-Err-clause-leaves
+returns-in-Err-clause-leaves g c = tt
+
+pub returns-in-Err-clause-touches : goal.returns-in-Err-clause-touches
+returns-in-Err-clause-touches g c = tt
+
+pub returns-in-Err-clause-leads : goal.returns-in-Err-clause-leads
+returns-in-Err-clause-leads g c =
+    g.V.Ground.leads_trans c.args.volume.now c.put_head.new.volume c.turn_older.new.volume
+    (g.V.Ground.leads_trans c.args.volume.now c.remove_from_file.new.pages c.put_head.new.volume c.remove_from_file.ensures.leads c.put_head.ensures.leads)
+    c.turn_older.ensures.leads
+
+pub returns-in-Err-clause-cause : goal.returns-in-Err-clause-cause
+returns-in-Err-clause-cause g c =
+    cause_after g.V.Ground c.args.volume.now c.put_head.new.volume
+    (g.V.Ground.leads_trans c.args.volume.now c.remove_from_file.new.pages c.put_head.new.volume c.remove_from_file.ensures.leads c.put_head.ensures.leads)
+    c.turn_older.new.volume c.in-Err.fault c.in-Err.ensures.cause
+
+pub remove_from_file-requires : goal.remove_from_file-requires
+remove_from_file-requires g c = c.requires
+
+pub put_head-requires : goal.put_head-requires
+put_head-requires g c = g.V.Ground.leads_ready c.args.volume.now c.remove_from_file.new.pages c.remove_from_file.ensures.leads c.requires
+
+pub turn_older-requires : goal.turn_older-requires
+turn_older-requires g c =
+    g.V.Ground.leads_ready c.args.volume.now c.put_head.new.volume
+    (g.V.Ground.leads_trans c.args.volume.now c.remove_from_file.new.pages c.put_head.new.volume c.remove_from_file.ensures.leads c.put_head.ensures.leads)
+    c.requires
+
+pub returns-in-Ok-clause-leaves : goal.returns-in-Ok-clause-leaves
+returns-in-Ok-clause-leaves g c =
+    ap (λ (f : Area → ℕ). f Segment) (c.in-Ok.ensures.free ∙ c.in_ok-put_head.ensures.free) ∙ c.in_ok-remove_from_file.ensures.leaves
+
+pub returns-in-Ok-clause-gives : goal.returns-in-Ok-clause-gives
+returns-in-Ok-clause-gives g c = gives_before g.V.Ground c.args.volume.now c.put_head.new.volume c.turn_older.new.volume
+    (gives_before g.V.Ground c.args.volume.now c.remove_from_file.new.pages c.put_head.new.volume c.in_ok-remove_from_file.ensures.gives
+    c.in_ok-put_head.ensures.units) c.in-Ok.ensures.units
+
+pub returns-in-Ok-clause-touches : goal.returns-in-Ok-clause-touches
+returns-in-Ok-clause-touches g c = omega (arith, c.in_ok-remove_from_file.ensures.touches, c.in_ok-put_head.ensures.touches, c.in-Ok.ensures.touches)

@@ -23,6 +23,9 @@ use Rattle.version_tree.proofs.WholeLinks.{between_whole}
 use Rattle.version_tree.proofs.ReadPlaces.{dropping_of, err_both, newer_read, newer_told, none_named, not_some, older_read, older_told, other_state, some_named, state_read}
 use Rattle.versions.proofs.Results.{ok_of}
 use Rattle.version_tree.specs.declared.links.Stored.{Stored}
+use Rattle.ex_base.proofs.Handed.{not_given, no_value, cause_here, handed_after, cause_of}
+use Rattle.std.proofs.lemmas.Bool.{false≢true}
+use Rattle.version_tree.proofs.Takings.{gives_after}
 use Rattle.version_tree.proofs.dropping.drop_version.Goals as goal
 
 pub returns-in_err-version-clause-sound : goal.returns-in_err-version-clause-sound
@@ -37,7 +40,7 @@ returns-in_err-check-clause-sound g c = if_err_handed c.from_residual-in_err-che
     let at = c.in_ok-version.ensures.stored told index is has in
     let yes : c.is_frozen.result ≡ true = c.is_frozen.ensures.1 (ap (λ (h : Head). h.state) (head_read g.V.Ground has.body is c.in_ok-version.version.head has.spelled at.head) ∙ frozen) in
     let isnt : c.is_frozen.result ≡ false = c.in_err-check.ensures.fault.0 in
-    absurd cc)
+    absurd (false≢true (sym isnt ∙ yes)))
 
 pub returns-in_err-check-clause-fault : goal.returns-in_err-check-clause-fault
 returns-in_err-check-clause-fault g c = if_err_handed c.from_residual-in_err-check.result _ _ c.from_residual-in_err-check.ensures.1 (λ told.
@@ -199,3 +202,217 @@ returns-in-Some-clause-sound g c = IfErr-weaker c.drop_read.result _ _ (λ fault
     h damage told_e index is
     (between_of g.V.Ground c.stored_version.new.volume c.linked_newer.new.volume index (place_of c.args.oid.now) has.body is c.in_ok-version.version c.in-Some.newer c.in_ok-older.older links_b be stands_b has.spelled at fits
     (c.is_frozen.ensures.0 c.in_ok-check.ensures.holds) up down)) c.drop_read.ensures.sound
+
+pub returns-in_err-version-clause-dropped : goal.returns-in_err-version-clause-dropped
+returns-in_err-version-clause-dropped g c = not_given c.from_residual.result _ c.in_err-version.field-0.0 c.from_residual.ensures.1
+
+pub returns-in_err-version-clause-asked : goal.returns-in_err-version-clause-asked
+returns-in_err-version-clause-asked g c = not_given c.from_residual.result _ c.in_err-version.field-0.0 c.from_residual.ensures.1
+
+pub returns-in_err-version-clause-reads : goal.returns-in_err-version-clause-reads
+returns-in_err-version-clause-reads g c = not_given c.from_residual.result _ c.in_err-version.field-0.0 c.from_residual.ensures.1
+
+pub returns-in_err-version-clause-gone : goal.returns-in_err-version-clause-gone
+returns-in_err-version-clause-gone g c = no_value c.from_residual.result _ c.in_err-version.field-0.0 c.from_residual.ensures.1
+
+pub returns-in_err-version-clause-pages : goal.returns-in_err-version-clause-pages
+returns-in_err-version-clause-pages g c = not_given c.from_residual.result _ c.in_err-version.field-0.0 c.from_residual.ensures.1
+
+pub returns-in_err-version-clause-gives : goal.returns-in_err-version-clause-gives
+returns-in_err-version-clause-gives g c = not_given c.from_residual.result _ c.in_err-version.field-0.0 c.from_residual.ensures.1
+
+pub returns-in_err-version-clause-leaves : goal.returns-in_err-version-clause-leaves
+returns-in_err-version-clause-leaves g c = not_given c.from_residual.result _ c.in_err-version.field-0.0 c.from_residual.ensures.1
+
+pub returns-in_err-version-clause-touches : goal.returns-in_err-version-clause-touches
+returns-in_err-version-clause-touches g c = not_given c.from_residual.result _ c.in_err-version.field-0.0 c.from_residual.ensures.1
+
+pub returns-in_err-version-clause-leads : goal.returns-in_err-version-clause-leads
+returns-in_err-version-clause-leads g c = c.stored_version.ensures.kept.leads
+
+pub returns-in_err-version-clause-cause : goal.returns-in_err-version-clause-cause
+returns-in_err-version-clause-cause g c =
+    cause_here (g.V.Ground.faults c.args.volume.now) (g.V.Ground.faults c.stored_version.new.volume) c.from_residual.result c.in_err-version.field-0.0
+    c.from_residual.ensures.1 c.in_err-version.ensures.cause
+
+pub returns-in_err-check-clause-dropped : goal.returns-in_err-check-clause-dropped
+returns-in_err-check-clause-dropped g c = not_given c.from_residual-in_err-check.result _ c.in_err-check.field-0.0 c.from_residual-in_err-check.ensures.1
+
+pub returns-in_err-check-clause-asked : goal.returns-in_err-check-clause-asked
+returns-in_err-check-clause-asked g c = not_given c.from_residual-in_err-check.result _ c.in_err-check.field-0.0 c.from_residual-in_err-check.ensures.1
+
+pub returns-in_err-check-clause-reads : goal.returns-in_err-check-clause-reads
+returns-in_err-check-clause-reads g c = not_given c.from_residual-in_err-check.result _ c.in_err-check.field-0.0 c.from_residual-in_err-check.ensures.1
+
+pub returns-in_err-check-clause-gone : goal.returns-in_err-check-clause-gone
+returns-in_err-check-clause-gone g c = no_value c.from_residual-in_err-check.result _ c.in_err-check.field-0.0 c.from_residual-in_err-check.ensures.1
+
+pub returns-in_err-check-clause-pages : goal.returns-in_err-check-clause-pages
+returns-in_err-check-clause-pages g c = not_given c.from_residual-in_err-check.result _ c.in_err-check.field-0.0 c.from_residual-in_err-check.ensures.1
+
+pub returns-in_err-check-clause-gives : goal.returns-in_err-check-clause-gives
+returns-in_err-check-clause-gives g c = not_given c.from_residual-in_err-check.result _ c.in_err-check.field-0.0 c.from_residual-in_err-check.ensures.1
+
+pub returns-in_err-check-clause-leaves : goal.returns-in_err-check-clause-leaves
+returns-in_err-check-clause-leaves g c = not_given c.from_residual-in_err-check.result _ c.in_err-check.field-0.0 c.from_residual-in_err-check.ensures.1
+
+pub returns-in_err-check-clause-touches : goal.returns-in_err-check-clause-touches
+returns-in_err-check-clause-touches g c = not_given c.from_residual-in_err-check.result _ c.in_err-check.field-0.0 c.from_residual-in_err-check.ensures.1
+
+pub returns-in_err-check-clause-leads : goal.returns-in_err-check-clause-leads
+returns-in_err-check-clause-leads g c = c.stored_version.ensures.kept.leads
+
+pub returns-in_err-check-clause-cause : goal.returns-in_err-check-clause-cause
+returns-in_err-check-clause-cause g c =
+    cause_here (g.V.Ground.faults c.args.volume.now) (g.V.Ground.faults c.stored_version.new.volume) c.from_residual-in_err-check.result
+    c.in_err-check.field-0.0 c.from_residual-in_err-check.ensures.1
+    (c.in_err-check.ensures.cause (g.V.Ground.faults c.args.volume.now) (g.V.Ground.faults c.stored_version.new.volume))
+
+pub returns-in_err-older-clause-dropped : goal.returns-in_err-older-clause-dropped
+returns-in_err-older-clause-dropped g c = not_given c.from_residual-in_err-older.result _ c.in_err-older.field-0.0 c.from_residual-in_err-older.ensures.1
+
+pub returns-in_err-older-clause-asked : goal.returns-in_err-older-clause-asked
+returns-in_err-older-clause-asked g c = not_given c.from_residual-in_err-older.result _ c.in_err-older.field-0.0 c.from_residual-in_err-older.ensures.1
+
+pub returns-in_err-older-clause-reads : goal.returns-in_err-older-clause-reads
+returns-in_err-older-clause-reads g c = not_given c.from_residual-in_err-older.result _ c.in_err-older.field-0.0 c.from_residual-in_err-older.ensures.1
+
+pub returns-in_err-older-clause-gone : goal.returns-in_err-older-clause-gone
+returns-in_err-older-clause-gone g c = no_value c.from_residual-in_err-older.result _ c.in_err-older.field-0.0 c.from_residual-in_err-older.ensures.1
+
+pub returns-in_err-older-clause-pages : goal.returns-in_err-older-clause-pages
+returns-in_err-older-clause-pages g c = not_given c.from_residual-in_err-older.result _ c.in_err-older.field-0.0 c.from_residual-in_err-older.ensures.1
+
+pub returns-in_err-older-clause-gives : goal.returns-in_err-older-clause-gives
+returns-in_err-older-clause-gives g c = not_given c.from_residual-in_err-older.result _ c.in_err-older.field-0.0 c.from_residual-in_err-older.ensures.1
+
+pub returns-in_err-older-clause-leaves : goal.returns-in_err-older-clause-leaves
+returns-in_err-older-clause-leaves g c = not_given c.from_residual-in_err-older.result _ c.in_err-older.field-0.0 c.from_residual-in_err-older.ensures.1
+
+pub returns-in_err-older-clause-touches : goal.returns-in_err-older-clause-touches
+returns-in_err-older-clause-touches g c = not_given c.from_residual-in_err-older.result _ c.in_err-older.field-0.0 c.from_residual-in_err-older.ensures.1
+
+pub returns-in_err-older-clause-leads : goal.returns-in_err-older-clause-leads
+returns-in_err-older-clause-leads g c =
+    g.V.Ground.leads_trans c.args.volume.now c.stored_version.new.volume c.linked_older.new.volume c.stored_version.ensures.kept.leads
+    c.linked_older.ensures.kept.leads
+
+pub returns-in_err-older-clause-cause : goal.returns-in_err-older-clause-cause
+returns-in_err-older-clause-cause g c =
+    handed_after g.V.Ground c.args.volume.now c.stored_version.new.volume c.stored_version.ensures.kept.leads c.linked_older.new.volume
+    c.from_residual-in_err-older.result c.in_err-older.field-0.0 c.from_residual-in_err-older.ensures.1 c.in_err-older.ensures.cause
+
+pub returns-in_err-found-clause-dropped : goal.returns-in_err-found-clause-dropped
+returns-in_err-found-clause-dropped g c = not_given c.from_residual-in_err-found.result _ c.in_err-found.field-0.0 c.from_residual-in_err-found.ensures.1
+
+pub returns-in_err-found-clause-asked : goal.returns-in_err-found-clause-asked
+returns-in_err-found-clause-asked g c = not_given c.from_residual-in_err-found.result _ c.in_err-found.field-0.0 c.from_residual-in_err-found.ensures.1
+
+pub returns-in_err-found-clause-reads : goal.returns-in_err-found-clause-reads
+returns-in_err-found-clause-reads g c = not_given c.from_residual-in_err-found.result _ c.in_err-found.field-0.0 c.from_residual-in_err-found.ensures.1
+
+pub returns-in_err-found-clause-gone : goal.returns-in_err-found-clause-gone
+returns-in_err-found-clause-gone g c = no_value c.from_residual-in_err-found.result _ c.in_err-found.field-0.0 c.from_residual-in_err-found.ensures.1
+
+pub returns-in_err-found-clause-pages : goal.returns-in_err-found-clause-pages
+returns-in_err-found-clause-pages g c = not_given c.from_residual-in_err-found.result _ c.in_err-found.field-0.0 c.from_residual-in_err-found.ensures.1
+
+pub returns-in_err-found-clause-gives : goal.returns-in_err-found-clause-gives
+returns-in_err-found-clause-gives g c = not_given c.from_residual-in_err-found.result _ c.in_err-found.field-0.0 c.from_residual-in_err-found.ensures.1
+
+pub returns-in_err-found-clause-leaves : goal.returns-in_err-found-clause-leaves
+returns-in_err-found-clause-leaves g c = not_given c.from_residual-in_err-found.result _ c.in_err-found.field-0.0 c.from_residual-in_err-found.ensures.1
+
+pub returns-in_err-found-clause-touches : goal.returns-in_err-found-clause-touches
+returns-in_err-found-clause-touches g c = not_given c.from_residual-in_err-found.result _ c.in_err-found.field-0.0 c.from_residual-in_err-found.ensures.1
+
+pub returns-in_err-found-clause-leads : goal.returns-in_err-found-clause-leads
+returns-in_err-found-clause-leads g c =
+    g.V.Ground.leads_trans c.args.volume.now c.linked_older.new.volume c.linked_newer.new.volume
+    (g.V.Ground.leads_trans c.args.volume.now c.stored_version.new.volume c.linked_older.new.volume c.stored_version.ensures.kept.leads
+    c.linked_older.ensures.kept.leads)
+    c.linked_newer.ensures.kept.leads
+
+pub returns-in_err-found-clause-cause : goal.returns-in_err-found-clause-cause
+returns-in_err-found-clause-cause g c =
+    handed_after g.V.Ground c.args.volume.now c.linked_older.new.volume
+    (g.V.Ground.leads_trans c.args.volume.now c.stored_version.new.volume c.linked_older.new.volume c.stored_version.ensures.kept.leads
+    c.linked_older.ensures.kept.leads)
+    c.linked_newer.new.volume c.from_residual-in_err-found.result c.in_err-found.field-0.0 c.from_residual-in_err-found.ensures.1 c.in_err-found.ensures.cause
+
+pub returns-in-Some-clause-leads : goal.returns-in-Some-clause-leads
+returns-in-Some-clause-leads g c =
+    g.V.Ground.leads_trans c.args.volume.now c.linked_newer.new.volume c.drop_read.new.volume
+    (g.V.Ground.leads_trans c.args.volume.now c.linked_older.new.volume c.linked_newer.new.volume
+    (g.V.Ground.leads_trans c.args.volume.now c.stored_version.new.volume c.linked_older.new.volume c.stored_version.ensures.kept.leads
+    c.linked_older.ensures.kept.leads) c.linked_newer.ensures.kept.leads)
+    c.drop_read.ensures.leads
+
+pub returns-in-Some-clause-cause : goal.returns-in-Some-clause-cause
+returns-in-Some-clause-cause g c =
+    cause_of g.V.Ground c.args.volume.now c.linked_newer.new.volume
+    (g.V.Ground.leads_trans c.args.volume.now c.linked_older.new.volume c.linked_newer.new.volume
+    (g.V.Ground.leads_trans c.args.volume.now c.stored_version.new.volume c.linked_older.new.volume c.stored_version.ensures.kept.leads
+    c.linked_older.ensures.kept.leads) c.linked_newer.ensures.kept.leads)
+    c.drop_read.new.volume c.drop_read.result c.drop_read.ensures.cause
+
+pub returns-clause-dropped : goal.returns-clause-dropped
+returns-clause-dropped g c = tt
+
+pub returns-clause-asked : goal.returns-clause-asked
+returns-clause-asked g c = tt
+
+pub returns-clause-reads : goal.returns-clause-reads
+returns-clause-reads g c = tt
+
+pub returns-clause-gone : goal.returns-clause-gone
+returns-clause-gone g c = tt
+
+pub returns-clause-pages : goal.returns-clause-pages
+returns-clause-pages g c = tt
+
+pub returns-clause-gives : goal.returns-clause-gives
+returns-clause-gives g c = tt
+
+pub returns-clause-leaves : goal.returns-clause-leaves
+returns-clause-leaves g c = tt
+
+pub returns-clause-touches : goal.returns-clause-touches
+returns-clause-touches g c = tt
+
+pub returns-clause-leads : goal.returns-clause-leads
+returns-clause-leads g c =
+    g.V.Ground.leads_trans c.args.volume.now c.linked_older.new.volume c.linked_newer.new.volume
+    (g.V.Ground.leads_trans c.args.volume.now c.stored_version.new.volume c.linked_older.new.volume c.stored_version.ensures.kept.leads
+    c.linked_older.ensures.kept.leads)
+    c.linked_newer.ensures.kept.leads
+
+pub returns-clause-cause : goal.returns-clause-cause
+returns-clause-cause g c = c.no_record.ensures.cause (g.V.Ground.faults c.args.volume.now) (g.V.Ground.faults c.linked_newer.new.volume)
+
+pub stored_version-requires : goal.stored_version-requires
+stored_version-requires g c = c.requires
+
+pub linked_older-requires : goal.linked_older-requires
+linked_older-requires g c = g.V.Ground.leads_ready c.args.volume.now c.stored_version.new.volume c.stored_version.ensures.kept.leads c.requires
+
+pub linked_newer-requires : goal.linked_newer-requires
+linked_newer-requires g c =
+    g.V.Ground.leads_ready c.args.volume.now c.linked_older.new.volume
+    (g.V.Ground.leads_trans c.args.volume.now c.stored_version.new.volume c.linked_older.new.volume c.stored_version.ensures.kept.leads
+    c.linked_older.ensures.kept.leads)
+    c.requires
+
+pub drop_read-requires : goal.drop_read-requires
+drop_read-requires g c =
+    g.V.Ground.leads_ready c.args.volume.now c.linked_newer.new.volume
+    (g.V.Ground.leads_trans c.args.volume.now c.linked_older.new.volume c.linked_newer.new.volume
+    (g.V.Ground.leads_trans c.args.volume.now c.stored_version.new.volume c.linked_older.new.volume c.stored_version.ensures.kept.leads
+    c.linked_older.ensures.kept.leads) c.linked_newer.ensures.kept.leads)
+    c.requires
+
+pub returns-in-Some-clause-gives : goal.returns-in-Some-clause-gives
+returns-in-Some-clause-gives g c = on_ok_weaker c.drop_read.result (gives_after g.V.Ground c.args.volume.now c.linked_newer.new.volume c.drop_read.new.volume
+    (keeps_on g.V.Ground c.args.volume.now c.linked_older.new.volume c.linked_newer.new.volume
+    (keeps_on g.V.Ground c.args.volume.now c.stored_version.new.volume c.linked_older.new.volume c.stored_version.ensures.kept
+    c.linked_older.ensures.kept) c.linked_newer.ensures.kept)) c.drop_read.ensures.gives

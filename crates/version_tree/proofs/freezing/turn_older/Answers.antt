@@ -1,4 +1,4 @@
-use Rattle.std.proofs.Common.{subst}
+use Rattle.std.proofs.Common.{subst, refl}
 use Rattle.std.proofs.lemmas.Result.{on_ok_weaker, IfErr-weaker}
 use Rattle.ex_base.proofs.Options.{at_some}
 use Rattle.version_tree.specs.Links.{StoredAt}
@@ -21,3 +21,39 @@ returns-in-Some-clause-sound g c = IfErr-weaker c.turn_stored.result _ _ (λ fau
 
 pub returns-in-Some-clause-fault : goal.returns-in-Some-clause-fault
 returns-in-Some-clause-fault g c = IfErr-weaker c.turn_stored.result _ _ (λ fault h told. some_and c.args.older.now c.in-Some.stored _ c.in-Some.is (h told)) c.turn_stored.ensures.fault
+
+pub returns-in-None-clause-sound : goal.returns-in-None-clause-sound
+returns-in-None-clause-sound g c = tt
+
+pub returns-in-None-clause-fault : goal.returns-in-None-clause-fault
+returns-in-None-clause-fault g c = tt
+
+pub returns-in-None-clause-leads : goal.returns-in-None-clause-leads
+returns-in-None-clause-leads g c = g.V.Ground.leads_refl c.args.volume.now
+
+pub returns-in-None-clause-cause : goal.returns-in-None-clause-cause
+returns-in-None-clause-cause g c = tt
+
+pub returns-in-Some-clause-leads : goal.returns-in-Some-clause-leads
+returns-in-Some-clause-leads g c = c.turn_stored.ensures.leads
+
+pub returns-in-Some-clause-cause : goal.returns-in-Some-clause-cause
+returns-in-Some-clause-cause g c = c.turn_stored.ensures.cause
+
+pub turn_stored-requires : goal.turn_stored-requires
+turn_stored-requires g c = c.requires
+
+pub returns-in-Some-clause-free : goal.returns-in-Some-clause-free
+returns-in-Some-clause-free g c = c.turn_stored.ensures.free
+
+pub returns-in-Some-clause-units : goal.returns-in-Some-clause-units
+returns-in-Some-clause-units g c = c.turn_stored.ensures.units
+
+pub returns-in-Some-clause-touches : goal.returns-in-Some-clause-touches
+returns-in-Some-clause-touches g c = c.turn_stored.ensures.touches
+
+pub returns-in-None-clause-free : goal.returns-in-None-clause-free
+returns-in-None-clause-free g c = refl
+
+pub returns-in-None-clause-units : goal.returns-in-None-clause-units
+returns-in-None-clause-units g c = record { used = refl; held = refl }

@@ -35,3 +35,13 @@ returns-clause-some c =
     let back = slice_back c.in_ok-body.body.items c.write_record.new.out c.in_ok-body.body.len
     (omega (arith, long, read, ap content_len c.payload.ensures, items, c.in_ok-body.ensures.len, c.len.ensures, ap (λ (t : List ℕ). length t) c.deref.ensures.value)) items in
     subst (λ (t : List ℕ). 36 ≤ length t) (sym back) (some_body c.write_record.new.out _ c.write_record.ensures)
+
+pub returns-clause-len : goal.returns-clause-len
+returns-clause-len c =
+    let long = record_long c.write_record.new.out c.args.head.now (content_of c.payload.result) c.write_record.ensures in
+    let read = record_long c.deref.result.now c.in-Some.view.head c.in-Some.view.content c.in-Some.ensures.found in
+    let items : length c.in_ok-body.body.items ≡ c.in_ok-body.body.len = omega (arith, c.in_ok-body.body.ok) in
+    let same : length c.write_record.new.out ≡ length c.args.stored.now.body.items = omega (arith, long, read, ap content_len c.payload.ensures, ap (λ (t : List ℕ). length t) c.deref.ensures.value) in
+    let back = slice_back c.in_ok-body.body.items c.write_record.new.out c.in_ok-body.body.len
+    (omega (arith, same, items, c.in_ok-body.ensures.len, c.len.ensures)) items in
+    ap length back ∙ same

@@ -5,6 +5,8 @@ use Rattle.version_tree.specs.Lineage.{below, first_from, listed, listed_from}
 use Rattle.version_tree.specs.declared.lineage.Member.{Member}
 use Rattle.version_tree.proofs.LineageOrder.{InOrder, fewer, order_next, order_start, rest_at}
 use Rattle.version_tree.proofs.MemberRuns.{all_same}
+use Rattle.version_tree.specs.Lookup.{Rises}
+use Rattle.version_tree.specs.declared.lookup.Order.TheVariants.{ByOlder, ByPlace}
 use Rattle.version_tree.proofs.lineage.list_members.Goals as goal
 
 pub rests-init : goal.rests-init
@@ -30,3 +32,15 @@ rests-preserved c =
     let todo = subst (λ (t : List Member). c.list_next.new.todo.items ≡ c.pop.new.self.items ++ reverse (below next.levels t next.member)) c.deref-in-Some.ensures.value c.in-Ok.ensures.todo in
     order_next c.in_ok-olders.olders.items (listed c.args.members.now c.args.member) c.rests.todo.items c.pop.new.self.items c.list_next.new.todo.items next c.rests.oids.items c.list_next.new.oids.items
     c.in-Some.ensures.items todo c.in-Ok.ensures.oids c.rests.invariant
+
+pub list_next-requires : goal.list_next-requires
+list_next-requires c = subst (λ (t : List Member). Rises ByOlder t) (sym c.deref-in-Some.ensures.value) c.in_ok-olders.ensures.rise
+
+pub first_from-requires : goal.first_from-requires
+first_from-requires c = subst (λ (t : List Member). Rises ByPlace t) (sym c.deref.ensures.value) c.in_ok-places.ensures.rise
+
+pub returns-in-Err-clause-no_damage : goal.returns-in-Err-clause-no_damage
+returns-in-Err-clause-no_damage c = c.in-Err.ensures.no_damage
+
+pub returns-in-Err-clause-cause : goal.returns-in-Err-clause-cause
+returns-in-Err-clause-cause c = c.in-Err.ensures.cause

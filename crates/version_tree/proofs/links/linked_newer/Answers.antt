@@ -1,9 +1,11 @@
-use Rattle.std.proofs.Common.{Option, Some, subst, sym, ap, ◌∙◌}
+use Rattle.std.proofs.Common.{Option, Some, subst, sym, ap, ◌∙◌, None, refl}
 use Rattle.ex_base.specs.declared.names.Place.{Place}
 use Rattle.file_bodies.specs.Bodies.{bodies_of}
 use Rattle.version_tree.specs.Links.{ReadOn, StoredAt}
 use Rattle.version_tree.proofs.Linking.{newer_at}
 use Rattle.version_tree.proofs.ReadPlaces.{newer_on}
+use Rattle.ex_base.proofs.Keeping.{keeps_refl}
+use Rattle.versions.proofs.Results.{at_nothing}
 use Rattle.version_tree.proofs.links.linked_newer.Goals as goal
 
 pub returns-in-Ok-clause-newer : goal.returns-in-Ok-clause-newer
@@ -25,3 +27,55 @@ returns-in-Err-clause-fault g c = λ told. c.in-Err.ensures.fault told c.in-Some
 
 pub returns-in-Ok-clause-link : goal.returns-in-Ok-clause-link
 returns-in-Ok-clause-link g c = λ told. newer_on (g.V.Ground.image c.args.volume.now) c.args.stored.now.place c.args.stored.now.head c.in-Some.at c.in-Ok.newer c.in-Some.is (c.in-Ok.ensures.reads told) c.in-Ok.ensures.derived c.in-Ok.ensures.higher
+
+pub returns-in-None-clause-sound : goal.returns-in-None-clause-sound
+returns-in-None-clause-sound g c = tt
+
+pub returns-in-None-clause-fault : goal.returns-in-None-clause-fault
+returns-in-None-clause-fault g c = tt
+
+pub returns-in-None-clause-kept : goal.returns-in-None-clause-kept
+returns-in-None-clause-kept g c = keeps_refl g.V.Ground c.args.volume.now
+
+pub returns-in-None-clause-cause : goal.returns-in-None-clause-cause
+returns-in-None-clause-cause g c = tt
+
+pub returns-in-Ok-clause-sound : goal.returns-in-Ok-clause-sound
+returns-in-Ok-clause-sound g c = tt
+
+pub returns-in-Ok-clause-fault : goal.returns-in-Ok-clause-fault
+returns-in-Ok-clause-fault g c = tt
+
+pub returns-in-Ok-clause-kept : goal.returns-in-Ok-clause-kept
+returns-in-Ok-clause-kept g c = c.read_newer.ensures.kept
+
+pub returns-in-Ok-clause-cause : goal.returns-in-Ok-clause-cause
+returns-in-Ok-clause-cause g c = tt
+
+pub returns-in-Err-clause-newer : goal.returns-in-Err-clause-newer
+returns-in-Err-clause-newer g c = tt
+
+pub returns-in-Err-clause-reads : goal.returns-in-Err-clause-reads
+returns-in-Err-clause-reads g c = tt
+
+pub returns-in-Err-clause-link : goal.returns-in-Err-clause-link
+returns-in-Err-clause-link g c = tt
+
+pub returns-in-Err-clause-kept : goal.returns-in-Err-clause-kept
+returns-in-Err-clause-kept g c = c.read_newer.ensures.kept
+
+pub returns-in-Err-clause-cause : goal.returns-in-Err-clause-cause
+returns-in-Err-clause-cause g c = c.in-Err.ensures.cause
+
+pub read_newer-requires : goal.read_newer-requires
+read_newer-requires g c = c.requires
+
+pub returns-in-None-clause-newer : goal.returns-in-None-clause-newer
+returns-in-None-clause-newer g c = λ told linked index place body has is.
+    subst (λ (link : Option Place). StoredAt (bodies_of (g.V.Ground.image c.args.volume.now) index) link None) (sym c.in-None.is) refl
+
+pub returns-in-None-clause-reads : goal.returns-in-None-clause-reads
+returns-in-None-clause-reads g c = λ told. subst (λ (link : Option Place). ReadOn (g.V.Ground.image c.args.volume.now) link None) (sym c.in-None.is) refl
+
+pub returns-in-None-clause-link : goal.returns-in-None-clause-link
+returns-in-None-clause-link g c = λ told. at_nothing c.args.stored.now.head.newer _ c.in-None.is

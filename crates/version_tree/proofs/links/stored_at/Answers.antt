@@ -2,7 +2,7 @@ use Rattle.std.proofs.Common.{ℕ, List, subst, sym, arith}
 use Rattle.std.proofs.lemmas.Result.{IfOk-weaker, IfErr-weaker}
 use Rattle.object_records.specs.Record.{BodyOf}
 use Rattle.file_bodies.proofs.Belonging.{file_of_body}
-use Rattle.version_tree.specs.Links.{in_its_file}
+use Rattle.version_tree.specs.Links.{in_its_file, IsStored}
 use Rattle.versions.proofs.Results.{of_found, ok_of}
 use Rattle.version_tree.proofs.HeadLaws.{body_fits}
 use Rattle.versions.proofs.Standing.{one_body}
@@ -32,3 +32,25 @@ returns-in-Ok-clause-fits g c = ok_of c.copy_on.result _ (λ told index body has
 pub returns-in-Ok-clause-fault : goal.returns-in-Ok-clause-fault
 returns-in-Ok-clause-fault g c = IfErr-weaker c.copy_on.result _ _ (λ fault h told. stored_told g.V.Ground c.args.volume.now c.args.place fault h.1 (λ damage index body is has spelled. h.0 damage told index body is has spelled))
     (err_both c.copy_on.result _ _ (returns-in-Ok-clause-sound g c) c.copy_on.ensures.fault)
+
+pub returns-in-Err-clause-stored : goal.returns-in-Err-clause-stored
+returns-in-Err-clause-stored g c = tt
+
+pub returns-in-Err-clause-reads : goal.returns-in-Err-clause-reads
+returns-in-Err-clause-reads g c = tt
+
+pub returns-in-Err-clause-fits : goal.returns-in-Err-clause-fits
+returns-in-Err-clause-fits g c = tt
+
+pub body_at-requires : goal.body_at-requires
+body_at-requires g c = c.requires
+
+pub returns-in-Err-clause-sound : goal.returns-in-Err-clause-sound
+returns-in-Err-clause-sound g c = λ damage told index body is has spelled.
+    c.in-Err.ensures.sound damage told (file_of_body g.V.Ground c.args.volume.now index c.args.place body has)
+
+pub returns-in-Ok-clause-stored : goal.returns-in-Ok-clause-stored
+returns-in-Ok-clause-stored g c = IfOk-weaker c.copy_on.result _ _ (λ stored h told index body has.
+    of_found c.in-Ok.body _ _ _ _ (c.in-Ok.ensures.found told (file_of_body g.V.Ground c.args.volume.now index c.args.place body has)) h
+    (λ never. absurd (never body (record { index = index; has = has })))
+    (λ b some is. subst (λ (t : List ℕ). IsStored stored c.args.place t) (one_body g.V.Ground c.args.volume.now index c.args.place b.now body some has) is)) c.copy_on.ensures.stored

@@ -9,6 +9,7 @@ use Rattle.versions.specs.Found.{HasLimits}
 use Rattle.versions.specs.Damage.{IsBodyFault, StandsOn, at_place, record_fault}
 use Rattle.version_tree.specs.Links.{IsReadOn, IsStored, by_look, no_version}
 use Rattle.version_tree.proofs.ReadPlaces.{stored_reading}
+use Rattle.ex_base.proofs.Handed.{no_value, not_given, cause_here}
 use Rattle.version_tree.proofs.links.stored_version.Goals as goal
 
 pub returns-in_err-stored-clause-sound : goal.returns-in_err-stored-clause-sound
@@ -66,3 +67,72 @@ returns-clause-reads g c = λ told.
 pub returns-clause-fits : goal.returns-clause-fits
 returns-clause-fits g c = λ told index is has.
     c.in_ok-stored.ensures.fits told index has.body (subst (λ (p : Place). HasBody g.V.Ground c.args.volume.now index p has.body) (sym c.place_of-place.ensures) has.stands)
+
+pub returns-in_err-stored-clause-stored : goal.returns-in_err-stored-clause-stored
+returns-in_err-stored-clause-stored g c = no_value c.from_residual.result _ c.in_err-stored.field-0.0 c.from_residual.ensures.1
+
+pub returns-in_err-stored-clause-reads : goal.returns-in_err-stored-clause-reads
+returns-in_err-stored-clause-reads g c = no_value c.from_residual.result _ c.in_err-stored.field-0.0 c.from_residual.ensures.1
+
+pub returns-in_err-stored-clause-fits : goal.returns-in_err-stored-clause-fits
+returns-in_err-stored-clause-fits g c = not_given c.from_residual.result _ c.in_err-stored.field-0.0 c.from_residual.ensures.1
+
+pub returns-in_err-stored-clause-kept : goal.returns-in_err-stored-clause-kept
+returns-in_err-stored-clause-kept g c = c.stored_at.ensures.kept
+
+pub returns-in_err-stored-clause-cause : goal.returns-in_err-stored-clause-cause
+returns-in_err-stored-clause-cause g c =
+    cause_here (g.V.Ground.faults c.args.volume.now) (g.V.Ground.faults c.stored_at.new.volume) c.from_residual.result c.in_err-stored.field-0.0
+    c.from_residual.ensures.1 c.in_err-stored.ensures.cause
+
+pub returns-in_err-told-clause-stored : goal.returns-in_err-told-clause-stored
+returns-in_err-told-clause-stored g c = no_value c.from_residual-in_err-told.result _ c.in_err-told.field-0.0 c.from_residual-in_err-told.ensures.1
+
+pub returns-in_err-told-clause-reads : goal.returns-in_err-told-clause-reads
+returns-in_err-told-clause-reads g c = no_value c.from_residual-in_err-told.result _ c.in_err-told.field-0.0 c.from_residual-in_err-told.ensures.1
+
+pub returns-in_err-told-clause-fits : goal.returns-in_err-told-clause-fits
+returns-in_err-told-clause-fits g c = not_given c.from_residual-in_err-told.result _ c.in_err-told.field-0.0 c.from_residual-in_err-told.ensures.1
+
+pub returns-in_err-told-clause-kept : goal.returns-in_err-told-clause-kept
+returns-in_err-told-clause-kept g c = c.stored_at.ensures.kept
+
+pub returns-in_err-told-clause-cause : goal.returns-in_err-told-clause-cause
+returns-in_err-told-clause-cause g c =
+    cause_here (g.V.Ground.faults c.args.volume.now) (g.V.Ground.faults c.stored_at.new.volume) c.from_residual-in_err-told.result c.in_err-told.field-0.0
+    c.from_residual-in_err-told.ensures.1 (c.in_err-told.ensures.cause (g.V.Ground.faults c.args.volume.now) (g.V.Ground.faults c.stored_at.new.volume))
+
+pub returns-in_err-stood-clause-stored : goal.returns-in_err-stood-clause-stored
+returns-in_err-stood-clause-stored g c = no_value c.from_residual-in_err-stood.result _ c.in_err-stood.field-0.0 c.from_residual-in_err-stood.ensures.1
+
+pub returns-in_err-stood-clause-reads : goal.returns-in_err-stood-clause-reads
+returns-in_err-stood-clause-reads g c = no_value c.from_residual-in_err-stood.result _ c.in_err-stood.field-0.0 c.from_residual-in_err-stood.ensures.1
+
+pub returns-in_err-stood-clause-fits : goal.returns-in_err-stood-clause-fits
+returns-in_err-stood-clause-fits g c = not_given c.from_residual-in_err-stood.result _ c.in_err-stood.field-0.0 c.from_residual-in_err-stood.ensures.1
+
+pub returns-in_err-stood-clause-kept : goal.returns-in_err-stood-clause-kept
+returns-in_err-stood-clause-kept g c = c.stored_at.ensures.kept
+
+pub returns-in_err-stood-clause-cause : goal.returns-in_err-stood-clause-cause
+returns-in_err-stood-clause-cause g c =
+    cause_here (g.V.Ground.faults c.args.volume.now) (g.V.Ground.faults c.stored_at.new.volume) c.from_residual-in_err-stood.result c.in_err-stood.field-0.0
+    c.from_residual-in_err-stood.ensures.1 (c.in_err-stood.ensures.cause (g.V.Ground.faults c.args.volume.now) (g.V.Ground.faults c.stored_at.new.volume))
+
+pub returns-clause-sound : goal.returns-clause-sound
+returns-clause-sound g c = tt
+
+pub returns-clause-fault : goal.returns-clause-fault
+returns-clause-fault g c = tt
+
+pub returns-clause-kept : goal.returns-clause-kept
+returns-clause-kept g c = c.stored_at.ensures.kept
+
+pub returns-clause-cause : goal.returns-clause-cause
+returns-clause-cause g c = tt
+
+pub stored_at-requires : goal.stored_at-requires
+stored_at-requires g c = c.requires
+
+pub geometry-geometry-requires : goal.geometry-geometry-requires
+geometry-geometry-requires g c = record { ready = g.V.Ground.leads_ready c.args.volume.now c.stored_at.new.volume c.stored_at.ensures.kept.leads c.requires }

@@ -5,6 +5,8 @@ use Rattle.versions.specs.Versions.{place_of}
 use Rattle.version_tree.specs.Links.{of_body, of_version}
 use Rattle.version_tree.proofs.Linking.{kept_linked, linked_limits, neighbour_told}
 use Rattle.version_tree.proofs.ReadPlaces.{oid_of_link, older_read, older_told}
+use Rattle.ex_base.proofs.Handed.{no_value, cause_here, cause_after}
+use Rattle.ex_base.proofs.Keeping.{keeps_on}
 use Rattle.version_tree.proofs.neighbours.older.Goals as goal
 
 pub returns-in_err-stored-clause-sound : goal.returns-in_err-stored-clause-sound
@@ -48,3 +50,51 @@ pub returns-clause-fault : goal.returns-clause-fault
 returns-clause-fault g c = λ told.
     let v = c.in_ok-stored.ensures.reads told in
     of_body c.in_ok-stored.stored.body.items v.read.stands (older_told g.V.Ground c.args.volume.now c.stored_version.new.volume c.stored_version.ensures.kept c.args.oid.now c.in_ok-stored.stored c.in-Err.fault v c.in-Err.ensures.fault told)
+
+pub returns-in_err-stored-clause-told : goal.returns-in_err-stored-clause-told
+returns-in_err-stored-clause-told g c = no_value c.from_residual.result _ c.in_err-stored.field-0.0 c.from_residual.ensures.1
+
+pub returns-in_err-stored-clause-reads : goal.returns-in_err-stored-clause-reads
+returns-in_err-stored-clause-reads g c = no_value c.from_residual.result _ c.in_err-stored.field-0.0 c.from_residual.ensures.1
+
+pub returns-in_err-stored-clause-kept : goal.returns-in_err-stored-clause-kept
+returns-in_err-stored-clause-kept g c = c.stored_version.ensures.kept
+
+pub returns-in_err-stored-clause-cause : goal.returns-in_err-stored-clause-cause
+returns-in_err-stored-clause-cause g c =
+    cause_here (g.V.Ground.faults c.args.volume.now) (g.V.Ground.faults c.stored_version.new.volume) c.from_residual.result c.in_err-stored.field-0.0
+    c.from_residual.ensures.1 c.in_err-stored.ensures.cause
+
+pub returns-in-Ok-clause-sound : goal.returns-in-Ok-clause-sound
+returns-in-Ok-clause-sound g c = tt
+
+pub returns-in-Ok-clause-fault : goal.returns-in-Ok-clause-fault
+returns-in-Ok-clause-fault g c = tt
+
+pub returns-in-Ok-clause-kept : goal.returns-in-Ok-clause-kept
+returns-in-Ok-clause-kept g c =
+    keeps_on g.V.Ground c.args.volume.now c.stored_version.new.volume c.linked_older.new.volume c.stored_version.ensures.kept c.linked_older.ensures.kept
+
+pub returns-in-Ok-clause-cause : goal.returns-in-Ok-clause-cause
+returns-in-Ok-clause-cause g c = tt
+
+pub returns-clause-told : goal.returns-clause-told
+returns-clause-told g c = tt
+
+pub returns-clause-reads : goal.returns-clause-reads
+returns-clause-reads g c = tt
+
+pub returns-clause-kept : goal.returns-clause-kept
+returns-clause-kept g c =
+    keeps_on g.V.Ground c.args.volume.now c.stored_version.new.volume c.linked_older.new.volume c.stored_version.ensures.kept c.linked_older.ensures.kept
+
+pub returns-clause-cause : goal.returns-clause-cause
+returns-clause-cause g c =
+    cause_after g.V.Ground c.args.volume.now c.stored_version.new.volume c.stored_version.ensures.kept.leads c.linked_older.new.volume c.in-Err.fault
+    c.in-Err.ensures.cause
+
+pub stored_version-requires : goal.stored_version-requires
+stored_version-requires g c = c.requires
+
+pub linked_older-requires : goal.linked_older-requires
+linked_older-requires g c = g.V.Ground.leads_ready c.args.volume.now c.stored_version.new.volume c.stored_version.ensures.kept.leads c.requires

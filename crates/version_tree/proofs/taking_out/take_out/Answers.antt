@@ -25,6 +25,9 @@ use Rattle.version_tree.proofs.WholeLinks.{read_whole}
 use Rattle.version_tree.proofs.ReadPlaces.{each_named, err_both, older_read, older_told, only_on, other_state, searching_of, state_read, taking_of}
 use Rattle.versions.proofs.Results.{ok_of}
 use Rattle.version_tree.proofs.TakenOut.{branch_of, branch_read, kept_takes, leaving_of}
+use Rattle.ex_base.proofs.Handed.{not_given, no_value, cause_here, handed_after, cause_of}
+use Rattle.std.proofs.lemmas.Bool.{false≢true}
+use Rattle.version_tree.proofs.Takings.{gives_after}
 use Rattle.version_tree.proofs.taking_out.take_out.Goals as goal
 
 pub returns-in_err-version-clause-sound : goal.returns-in_err-version-clause-sound
@@ -39,7 +42,7 @@ returns-in_err-check-clause-sound g c = if_err_handed c.from_residual-in_err-che
     let at = c.in_ok-version.ensures.stored told index is has in
     let yes : c.is_current.result ≡ true = c.is_current.ensures.1 (ap (λ (h : Head). h.state) (head_read g.V.Ground has.body is c.in_ok-version.version.head has.spelled at.head) ∙ current) in
     let isnt : c.is_current.result ≡ false = c.in_err-check.ensures.fault.0 in
-    absurd cc)
+    absurd (false≢true (sym isnt ∙ yes)))
 
 pub returns-in_err-check-clause-fault : goal.returns-in_err-check-clause-fault
 returns-in_err-check-clause-fault g c = if_err_handed c.from_residual-in_err-check.result _ _ c.from_residual-in_err-check.ensures.1 (λ told.
@@ -70,7 +73,7 @@ returns-in_err-check-2-clause-sound g c = if_err_handed c.from_residual-in_err-c
     (subst (λ (i : ℕ → List ℕ). IsBranch (bodies_of i index) is.head.older) (sym kept.images) branch) in
     let yes : c.is_branch.result ≡ true = c.is_branch.ensures.1 (branch_read (bodies_of (g.V.Ground.image c.stored_version.new.volume) index) c.in_ok-version.version.head.older c.in_ok-older.older up link) in
     let isnt : c.is_branch.result ≡ false = c.in_err-check-2.ensures.fault.0 in
-    absurd cc)
+    absurd (false≢true (sym isnt ∙ yes)))
 
 pub returns-in_err-check-2-clause-fault : goal.returns-in_err-check-2-clause-fault
 returns-in_err-check-2-clause-fault g c = if_err_handed c.from_residual-in_err-check-2.result _ _ c.from_residual-in_err-check-2.ensures.1 (λ told.
@@ -81,7 +84,7 @@ returns-in_err-check-2-clause-fault g c = if_err_handed c.from_residual-in_err-c
     (no_branch (only_on (g.V.Ground.image c.args.volume.now) (g.V.Ground.image c.stored_version.new.volume) c.args.oid.now c.in_ok-version.version c.in_ok-older.older kept.images v (c.in_ok-older.ensures.reads told_b)
     (λ many. absurd (
     let yes : c.is_branch.result ≡ true = c.is_branch.ensures.1 many in
-    let no : c.is_branch.result ≡ false = c.in_err-check-2.ensures.fault.0 in cc))) (c.in_err-check-2.ensures.fault.1 ∙ ap record_fault v.read.at)))
+    let no : c.is_branch.result ≡ false = c.in_err-check-2.ensures.fault.0 in false≢true (sym no ∙ yes)))) (c.in_err-check-2.ensures.fault.1 ∙ ap record_fault v.read.at)))
 
 pub returns-in_err-other-clause-sound : goal.returns-in_err-other-clause-sound
 returns-in_err-other-clause-sound g c = if_err_handed c.from_residual-in_err-other.result _ _ c.from_residual-in_err-other.ensures.1 (λ damage told links index is has current branch.
@@ -234,3 +237,235 @@ returns-clause-sound g c = IfErr-weaker c.take_read.result _ _ (λ fault h damag
     let left = subst (λ (i : ℕ → List ℕ). c.in_ok-other.other ≡ other_from (bodies_of i index) c.in_ok-version.version.place c.in_ok-older.older) (sym de.images)
     (c.in_ok-other.ensures.other told_d index (just_stand g.V.Ground c.linked_older.new.volume index c.in_ok-older.older read_d.frozen)) in
     h damage told_e index is (leaving_of g.V.Ground c.other_from.new.volume index c.in_ok-version.version c.in_ok-older.older c.in_ok-other.other is read_e current left)) c.take_read.ensures.sound
+
+pub returns-in_err-version-clause-taken_out : goal.returns-in_err-version-clause-taken_out
+returns-in_err-version-clause-taken_out g c = not_given c.from_residual.result _ c.in_err-version.field-0.0 c.from_residual.ensures.1
+
+pub returns-in_err-version-clause-asked : goal.returns-in_err-version-clause-asked
+returns-in_err-version-clause-asked g c = not_given c.from_residual.result _ c.in_err-version.field-0.0 c.from_residual.ensures.1
+
+pub returns-in_err-version-clause-reads : goal.returns-in_err-version-clause-reads
+returns-in_err-version-clause-reads g c = not_given c.from_residual.result _ c.in_err-version.field-0.0 c.from_residual.ensures.1
+
+pub returns-in_err-version-clause-branch : goal.returns-in_err-version-clause-branch
+returns-in_err-version-clause-branch g c = not_given c.from_residual.result _ c.in_err-version.field-0.0 c.from_residual.ensures.1
+
+pub returns-in_err-version-clause-gone : goal.returns-in_err-version-clause-gone
+returns-in_err-version-clause-gone g c = no_value c.from_residual.result _ c.in_err-version.field-0.0 c.from_residual.ensures.1
+
+pub returns-in_err-version-clause-pages : goal.returns-in_err-version-clause-pages
+returns-in_err-version-clause-pages g c = not_given c.from_residual.result _ c.in_err-version.field-0.0 c.from_residual.ensures.1
+
+pub returns-in_err-version-clause-gives : goal.returns-in_err-version-clause-gives
+returns-in_err-version-clause-gives g c = not_given c.from_residual.result _ c.in_err-version.field-0.0 c.from_residual.ensures.1
+
+pub returns-in_err-version-clause-leaves : goal.returns-in_err-version-clause-leaves
+returns-in_err-version-clause-leaves g c = not_given c.from_residual.result _ c.in_err-version.field-0.0 c.from_residual.ensures.1
+
+pub returns-in_err-version-clause-touches : goal.returns-in_err-version-clause-touches
+returns-in_err-version-clause-touches g c = not_given c.from_residual.result _ c.in_err-version.field-0.0 c.from_residual.ensures.1
+
+pub returns-in_err-version-clause-leads : goal.returns-in_err-version-clause-leads
+returns-in_err-version-clause-leads g c = c.stored_version.ensures.kept.leads
+
+pub returns-in_err-version-clause-cause : goal.returns-in_err-version-clause-cause
+returns-in_err-version-clause-cause g c =
+    cause_here (g.V.Ground.faults c.args.volume.now) (g.V.Ground.faults c.stored_version.new.volume) c.from_residual.result c.in_err-version.field-0.0
+    c.from_residual.ensures.1 c.in_err-version.ensures.cause
+
+pub returns-in_err-check-clause-taken_out : goal.returns-in_err-check-clause-taken_out
+returns-in_err-check-clause-taken_out g c = not_given c.from_residual-in_err-check.result _ c.in_err-check.field-0.0 c.from_residual-in_err-check.ensures.1
+
+pub returns-in_err-check-clause-asked : goal.returns-in_err-check-clause-asked
+returns-in_err-check-clause-asked g c = not_given c.from_residual-in_err-check.result _ c.in_err-check.field-0.0 c.from_residual-in_err-check.ensures.1
+
+pub returns-in_err-check-clause-reads : goal.returns-in_err-check-clause-reads
+returns-in_err-check-clause-reads g c = not_given c.from_residual-in_err-check.result _ c.in_err-check.field-0.0 c.from_residual-in_err-check.ensures.1
+
+pub returns-in_err-check-clause-branch : goal.returns-in_err-check-clause-branch
+returns-in_err-check-clause-branch g c = not_given c.from_residual-in_err-check.result _ c.in_err-check.field-0.0 c.from_residual-in_err-check.ensures.1
+
+pub returns-in_err-check-clause-gone : goal.returns-in_err-check-clause-gone
+returns-in_err-check-clause-gone g c = no_value c.from_residual-in_err-check.result _ c.in_err-check.field-0.0 c.from_residual-in_err-check.ensures.1
+
+pub returns-in_err-check-clause-pages : goal.returns-in_err-check-clause-pages
+returns-in_err-check-clause-pages g c = not_given c.from_residual-in_err-check.result _ c.in_err-check.field-0.0 c.from_residual-in_err-check.ensures.1
+
+pub returns-in_err-check-clause-gives : goal.returns-in_err-check-clause-gives
+returns-in_err-check-clause-gives g c = not_given c.from_residual-in_err-check.result _ c.in_err-check.field-0.0 c.from_residual-in_err-check.ensures.1
+
+pub returns-in_err-check-clause-leaves : goal.returns-in_err-check-clause-leaves
+returns-in_err-check-clause-leaves g c = not_given c.from_residual-in_err-check.result _ c.in_err-check.field-0.0 c.from_residual-in_err-check.ensures.1
+
+pub returns-in_err-check-clause-touches : goal.returns-in_err-check-clause-touches
+returns-in_err-check-clause-touches g c = not_given c.from_residual-in_err-check.result _ c.in_err-check.field-0.0 c.from_residual-in_err-check.ensures.1
+
+pub returns-in_err-check-clause-leads : goal.returns-in_err-check-clause-leads
+returns-in_err-check-clause-leads g c = c.stored_version.ensures.kept.leads
+
+pub returns-in_err-check-clause-cause : goal.returns-in_err-check-clause-cause
+returns-in_err-check-clause-cause g c =
+    cause_here (g.V.Ground.faults c.args.volume.now) (g.V.Ground.faults c.stored_version.new.volume) c.from_residual-in_err-check.result
+    c.in_err-check.field-0.0 c.from_residual-in_err-check.ensures.1
+    (c.in_err-check.ensures.cause (g.V.Ground.faults c.args.volume.now) (g.V.Ground.faults c.stored_version.new.volume))
+
+pub returns-in_err-older-clause-taken_out : goal.returns-in_err-older-clause-taken_out
+returns-in_err-older-clause-taken_out g c = not_given c.from_residual-in_err-older.result _ c.in_err-older.field-0.0 c.from_residual-in_err-older.ensures.1
+
+pub returns-in_err-older-clause-asked : goal.returns-in_err-older-clause-asked
+returns-in_err-older-clause-asked g c = not_given c.from_residual-in_err-older.result _ c.in_err-older.field-0.0 c.from_residual-in_err-older.ensures.1
+
+pub returns-in_err-older-clause-reads : goal.returns-in_err-older-clause-reads
+returns-in_err-older-clause-reads g c = not_given c.from_residual-in_err-older.result _ c.in_err-older.field-0.0 c.from_residual-in_err-older.ensures.1
+
+pub returns-in_err-older-clause-branch : goal.returns-in_err-older-clause-branch
+returns-in_err-older-clause-branch g c = not_given c.from_residual-in_err-older.result _ c.in_err-older.field-0.0 c.from_residual-in_err-older.ensures.1
+
+pub returns-in_err-older-clause-gone : goal.returns-in_err-older-clause-gone
+returns-in_err-older-clause-gone g c = no_value c.from_residual-in_err-older.result _ c.in_err-older.field-0.0 c.from_residual-in_err-older.ensures.1
+
+pub returns-in_err-older-clause-pages : goal.returns-in_err-older-clause-pages
+returns-in_err-older-clause-pages g c = not_given c.from_residual-in_err-older.result _ c.in_err-older.field-0.0 c.from_residual-in_err-older.ensures.1
+
+pub returns-in_err-older-clause-gives : goal.returns-in_err-older-clause-gives
+returns-in_err-older-clause-gives g c = not_given c.from_residual-in_err-older.result _ c.in_err-older.field-0.0 c.from_residual-in_err-older.ensures.1
+
+pub returns-in_err-older-clause-leaves : goal.returns-in_err-older-clause-leaves
+returns-in_err-older-clause-leaves g c = not_given c.from_residual-in_err-older.result _ c.in_err-older.field-0.0 c.from_residual-in_err-older.ensures.1
+
+pub returns-in_err-older-clause-touches : goal.returns-in_err-older-clause-touches
+returns-in_err-older-clause-touches g c = not_given c.from_residual-in_err-older.result _ c.in_err-older.field-0.0 c.from_residual-in_err-older.ensures.1
+
+pub returns-in_err-older-clause-leads : goal.returns-in_err-older-clause-leads
+returns-in_err-older-clause-leads g c =
+    g.V.Ground.leads_trans c.args.volume.now c.stored_version.new.volume c.linked_older.new.volume c.stored_version.ensures.kept.leads
+    c.linked_older.ensures.kept.leads
+
+pub returns-in_err-older-clause-cause : goal.returns-in_err-older-clause-cause
+returns-in_err-older-clause-cause g c =
+    handed_after g.V.Ground c.args.volume.now c.stored_version.new.volume c.stored_version.ensures.kept.leads c.linked_older.new.volume
+    c.from_residual-in_err-older.result c.in_err-older.field-0.0 c.from_residual-in_err-older.ensures.1 c.in_err-older.ensures.cause
+
+pub returns-in_err-check-2-clause-taken_out : goal.returns-in_err-check-2-clause-taken_out
+returns-in_err-check-2-clause-taken_out g c =
+    not_given c.from_residual-in_err-check-2.result _ c.in_err-check-2.field-0.0 c.from_residual-in_err-check-2.ensures.1
+
+pub returns-in_err-check-2-clause-asked : goal.returns-in_err-check-2-clause-asked
+returns-in_err-check-2-clause-asked g c = not_given c.from_residual-in_err-check-2.result _ c.in_err-check-2.field-0.0 c.from_residual-in_err-check-2.ensures.1
+
+pub returns-in_err-check-2-clause-reads : goal.returns-in_err-check-2-clause-reads
+returns-in_err-check-2-clause-reads g c = not_given c.from_residual-in_err-check-2.result _ c.in_err-check-2.field-0.0 c.from_residual-in_err-check-2.ensures.1
+
+pub returns-in_err-check-2-clause-branch : goal.returns-in_err-check-2-clause-branch
+returns-in_err-check-2-clause-branch g c = not_given c.from_residual-in_err-check-2.result _ c.in_err-check-2.field-0.0 c.from_residual-in_err-check-2.ensures.1
+
+pub returns-in_err-check-2-clause-gone : goal.returns-in_err-check-2-clause-gone
+returns-in_err-check-2-clause-gone g c = no_value c.from_residual-in_err-check-2.result _ c.in_err-check-2.field-0.0 c.from_residual-in_err-check-2.ensures.1
+
+pub returns-in_err-check-2-clause-pages : goal.returns-in_err-check-2-clause-pages
+returns-in_err-check-2-clause-pages g c = not_given c.from_residual-in_err-check-2.result _ c.in_err-check-2.field-0.0 c.from_residual-in_err-check-2.ensures.1
+
+pub returns-in_err-check-2-clause-gives : goal.returns-in_err-check-2-clause-gives
+returns-in_err-check-2-clause-gives g c = not_given c.from_residual-in_err-check-2.result _ c.in_err-check-2.field-0.0 c.from_residual-in_err-check-2.ensures.1
+
+pub returns-in_err-check-2-clause-leaves : goal.returns-in_err-check-2-clause-leaves
+returns-in_err-check-2-clause-leaves g c = not_given c.from_residual-in_err-check-2.result _ c.in_err-check-2.field-0.0 c.from_residual-in_err-check-2.ensures.1
+
+pub returns-in_err-check-2-clause-touches : goal.returns-in_err-check-2-clause-touches
+returns-in_err-check-2-clause-touches g c =
+    not_given c.from_residual-in_err-check-2.result _ c.in_err-check-2.field-0.0 c.from_residual-in_err-check-2.ensures.1
+
+pub returns-in_err-check-2-clause-leads : goal.returns-in_err-check-2-clause-leads
+returns-in_err-check-2-clause-leads g c =
+    g.V.Ground.leads_trans c.args.volume.now c.stored_version.new.volume c.linked_older.new.volume c.stored_version.ensures.kept.leads
+    c.linked_older.ensures.kept.leads
+
+pub returns-in_err-check-2-clause-cause : goal.returns-in_err-check-2-clause-cause
+returns-in_err-check-2-clause-cause g c =
+    cause_here (g.V.Ground.faults c.args.volume.now) (g.V.Ground.faults c.linked_older.new.volume) c.from_residual-in_err-check-2.result
+    c.in_err-check-2.field-0.0 c.from_residual-in_err-check-2.ensures.1
+    (c.in_err-check-2.ensures.cause (g.V.Ground.faults c.args.volume.now) (g.V.Ground.faults c.linked_older.new.volume))
+
+pub returns-in_err-other-clause-taken_out : goal.returns-in_err-other-clause-taken_out
+returns-in_err-other-clause-taken_out g c = not_given c.from_residual-in_err-other.result _ c.in_err-other.field-0.0 c.from_residual-in_err-other.ensures.1
+
+pub returns-in_err-other-clause-asked : goal.returns-in_err-other-clause-asked
+returns-in_err-other-clause-asked g c = not_given c.from_residual-in_err-other.result _ c.in_err-other.field-0.0 c.from_residual-in_err-other.ensures.1
+
+pub returns-in_err-other-clause-reads : goal.returns-in_err-other-clause-reads
+returns-in_err-other-clause-reads g c = not_given c.from_residual-in_err-other.result _ c.in_err-other.field-0.0 c.from_residual-in_err-other.ensures.1
+
+pub returns-in_err-other-clause-branch : goal.returns-in_err-other-clause-branch
+returns-in_err-other-clause-branch g c = not_given c.from_residual-in_err-other.result _ c.in_err-other.field-0.0 c.from_residual-in_err-other.ensures.1
+
+pub returns-in_err-other-clause-gone : goal.returns-in_err-other-clause-gone
+returns-in_err-other-clause-gone g c = no_value c.from_residual-in_err-other.result _ c.in_err-other.field-0.0 c.from_residual-in_err-other.ensures.1
+
+pub returns-in_err-other-clause-pages : goal.returns-in_err-other-clause-pages
+returns-in_err-other-clause-pages g c = not_given c.from_residual-in_err-other.result _ c.in_err-other.field-0.0 c.from_residual-in_err-other.ensures.1
+
+pub returns-in_err-other-clause-gives : goal.returns-in_err-other-clause-gives
+returns-in_err-other-clause-gives g c = not_given c.from_residual-in_err-other.result _ c.in_err-other.field-0.0 c.from_residual-in_err-other.ensures.1
+
+pub returns-in_err-other-clause-leaves : goal.returns-in_err-other-clause-leaves
+returns-in_err-other-clause-leaves g c = not_given c.from_residual-in_err-other.result _ c.in_err-other.field-0.0 c.from_residual-in_err-other.ensures.1
+
+pub returns-in_err-other-clause-touches : goal.returns-in_err-other-clause-touches
+returns-in_err-other-clause-touches g c = not_given c.from_residual-in_err-other.result _ c.in_err-other.field-0.0 c.from_residual-in_err-other.ensures.1
+
+pub returns-in_err-other-clause-leads : goal.returns-in_err-other-clause-leads
+returns-in_err-other-clause-leads g c =
+    g.V.Ground.leads_trans c.args.volume.now c.linked_older.new.volume c.other_from.new.volume
+    (g.V.Ground.leads_trans c.args.volume.now c.stored_version.new.volume c.linked_older.new.volume c.stored_version.ensures.kept.leads
+    c.linked_older.ensures.kept.leads)
+    c.other_from.ensures.kept.leads
+
+pub returns-in_err-other-clause-cause : goal.returns-in_err-other-clause-cause
+returns-in_err-other-clause-cause g c =
+    handed_after g.V.Ground c.args.volume.now c.linked_older.new.volume
+    (g.V.Ground.leads_trans c.args.volume.now c.stored_version.new.volume c.linked_older.new.volume c.stored_version.ensures.kept.leads
+    c.linked_older.ensures.kept.leads)
+    c.other_from.new.volume c.from_residual-in_err-other.result c.in_err-other.field-0.0 c.from_residual-in_err-other.ensures.1 c.in_err-other.ensures.cause
+
+pub returns-clause-leads : goal.returns-clause-leads
+returns-clause-leads g c =
+    g.V.Ground.leads_trans c.args.volume.now c.other_from.new.volume c.take_read.new.volume
+    (g.V.Ground.leads_trans c.args.volume.now c.linked_older.new.volume c.other_from.new.volume
+    (g.V.Ground.leads_trans c.args.volume.now c.stored_version.new.volume c.linked_older.new.volume c.stored_version.ensures.kept.leads
+    c.linked_older.ensures.kept.leads) c.other_from.ensures.kept.leads)
+    c.take_read.ensures.leads
+
+pub returns-clause-cause : goal.returns-clause-cause
+returns-clause-cause g c =
+    cause_of g.V.Ground c.args.volume.now c.other_from.new.volume
+    (g.V.Ground.leads_trans c.args.volume.now c.linked_older.new.volume c.other_from.new.volume
+    (g.V.Ground.leads_trans c.args.volume.now c.stored_version.new.volume c.linked_older.new.volume c.stored_version.ensures.kept.leads
+    c.linked_older.ensures.kept.leads) c.other_from.ensures.kept.leads)
+    c.take_read.new.volume c.take_read.result c.take_read.ensures.cause
+
+pub stored_version-requires : goal.stored_version-requires
+stored_version-requires g c = c.requires
+
+pub linked_older-requires : goal.linked_older-requires
+linked_older-requires g c = g.V.Ground.leads_ready c.args.volume.now c.stored_version.new.volume c.stored_version.ensures.kept.leads c.requires
+
+pub other_from-requires : goal.other_from-requires
+other_from-requires g c =
+    g.V.Ground.leads_ready c.args.volume.now c.linked_older.new.volume
+    (g.V.Ground.leads_trans c.args.volume.now c.stored_version.new.volume c.linked_older.new.volume c.stored_version.ensures.kept.leads
+    c.linked_older.ensures.kept.leads)
+    c.requires
+
+pub take_read-requires : goal.take_read-requires
+take_read-requires g c =
+    g.V.Ground.leads_ready c.args.volume.now c.other_from.new.volume
+    (g.V.Ground.leads_trans c.args.volume.now c.linked_older.new.volume c.other_from.new.volume
+    (g.V.Ground.leads_trans c.args.volume.now c.stored_version.new.volume c.linked_older.new.volume c.stored_version.ensures.kept.leads
+    c.linked_older.ensures.kept.leads) c.other_from.ensures.kept.leads)
+    c.requires
+
+pub returns-clause-gives : goal.returns-clause-gives
+returns-clause-gives g c = on_ok_weaker c.take_read.result (gives_after g.V.Ground c.args.volume.now c.other_from.new.volume c.take_read.new.volume
+    (keeps_on g.V.Ground c.args.volume.now c.linked_older.new.volume c.other_from.new.volume
+    (keeps_on g.V.Ground c.args.volume.now c.stored_version.new.volume c.linked_older.new.volume c.stored_version.ensures.kept
+    c.linked_older.ensures.kept) c.other_from.ensures.kept)) c.take_read.ensures.gives

@@ -1,6 +1,8 @@
-use Rattle.std.proofs.Common.{◌≡◌, ℕ, length, subst, arith}
+use Rattle.std.proofs.Common.{◌≡◌, ℕ, length, subst, arith, sym, ap}
 use Rattle.file_bodies.specs.Damage.{IsListedFault, IsPlacingFault}
 use Rattle.file_bodies.specs.Placing.{start_of}
+use Rattle.ex_base.specs.declared.names.Oid.{Oid}
+use Rattle.versions.specs.Versions.{CreatesVersion, PutsVersion}
 use Rattle.versions.proofs.creating.create.Goals as goal
 
 pub returns-in-Err-clause-fault : goal.returns-in-Err-clause-fault
@@ -71,3 +73,19 @@ returns-in-Ok-clause-leads g c = c.place_body.ensures.leads
 
 pub place_body-requires-clause-ready : goal.place_body-requires-clause-ready
 place_body-requires-clause-ready g c = c.requires.ready
+
+pub returns-in-Ok-clause-anywhere : goal.returns-in-Ok-clause-anywhere
+returns-in-Ok-clause-anywhere g c = λ told index file same.
+    subst (λ (o : Oid). PutsVersion g.V.Ground c.args.volume.now c.place_body.new.pages index o) (sym c.oid_at.ensures)
+    (record { body = c.write_small.new.out; spelled = c.write_small.ensures; puts = c.in-Ok.ensures.anywhere told index file same })
+
+pub returns-in-Ok-clause-created : goal.returns-in-Ok-clause-created
+returns-in-Ok-clause-created g c = λ told index file same room.
+    subst (λ (o : Oid). CreatesVersion g.V.Ground c.args.volume.now c.place_body.new.pages index o) (sym c.oid_at.ensures)
+    (record { body = c.write_small.new.out; spelled = c.write_small.ensures; places = c.in-Ok.ensures.placed told index file same room })
+
+pub returns-in-Ok-clause-number : goal.returns-in-Ok-clause-number
+returns-in-Ok-clause-number g c = ap (λ (o : Oid). o.unique) c.oid_at.ensures
+
+pub returns-in-Err-clause-unplaced : goal.returns-in-Err-clause-unplaced
+returns-in-Err-clause-unplaced g c = c.in-Err.ensures.unplaced

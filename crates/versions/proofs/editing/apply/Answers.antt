@@ -1,3 +1,4 @@
+use Rattle.std.proofs.lemmas.Bool.{false≢true}
 use Rattle.std.proofs.Common.{◌≡◌, ◌≢◌, ℕ, true, false, length, subst, sym, ap, ◌∙◌, arith, inl, inr}
 use Rattle.ex_base.specs.declared.geometry.Geometry.{Geometry}
 use Rattle.ex_base.specs.declared.names.Area.{Area}
@@ -17,7 +18,7 @@ use Rattle.versions.specs.Damage.{record_fault, looking, small, large, unlike}
 use Rattle.versions.proofs.Faults.{root_at, bytes_kept, version_kept}
 use Rattle.versions.proofs.Results.{none_some, same_some, ok_of}
 use Rattle.versions.proofs.Standing.{version_readable, holds_of, head_told, kept_version, small_content, large_content}
-use Rattle.versions.proofs.Needed.{same_length, grows, edit_need_is}
+use Rattle.versions.proofs.Needed.{same_length, grows, edit_need_is, enough_kept, takes_kept}
 use Rattle.versions.proofs.Becoming.{kept_turned, kept_in_use, kept_stays, less_stays}
 use Rattle.ex_base.proofs.Handed.{no_value, not_given, cause_here, any_value, cause_of}
 use Rattle.trees.specs.Roots.{IsRootFor}
@@ -37,7 +38,7 @@ returns-in_err-check-clause-sound g c = if_err_handed c.from_residual-in_err-che
     let f_is = same_some c.in_ok-told.told c.in_ok-found.found _ c.in_ok-found.ensures.some (c.in_ok-told.ensures.told told index _ has.stored) in
     let yes : c.is_editable.result ≡ true = c.is_editable.ensures.1 (ap (λ (f : Found). f.head.state) f_is ∙ current, subst (InRange (change_of c.args.edit.now)) (sym size) range) in
     let isnt : c.is_editable.result ≡ false = c.in_err-check.ensures.fault.0 in
-    cc)
+    false≢true (sym isnt ∙ yes))
 
 pub returns-then-count-eq0-clause-size : goal.returns-then-count-eq0-clause-size
 returns-then-count-eq0-clause-size g c = λ told index head content bytes has.
@@ -102,7 +103,7 @@ returns-in-None-clause-free g c = on_ok_both c.edit_small.result _ _ _ (λ stay 
     let geo = g.V.Ground.leads_geometry c.args.volume.now c.find.new.volume kept.leads in
     let asked = edit_need_is (g.V.Ground.geometry c.args.volume.now) (change_of c.args.edit.now) content area some ∙ ap (λ (t : Content). most_need (g.V.Ground.geometry c.args.volume.now) (change_of c.args.edit.now) (height_in t) area) is_small in
     elim (grows (change_of c.args.edit.now) bytes range) [
-      | inl same ↦ omega (arith, free area, ap (λ (f : Area → ℕ). f area) kept.free, ap (λ (y : Geometry). growth_need y (count_of (change_of c.args.edit.now)) 0 area) geo, asked, same (g.V.Ground.geometry c.args.volume.now) area)
+      | inl same ↦ takes_kept _ _ _ _ _ _ (free area) (ap (λ (f : Area → ℕ). f area) kept.free) (ap (λ (y : Geometry). growth_need y (count_of (change_of c.args.edit.now)) 0 area) geo) (asked ∙ same (g.V.Ground.geometry c.args.volume.now) area)
       | inr few ↦ omega (arith, ap (λ (f : Area → ℕ). f area) (stay told_n index bytes has_n (sym size) (less_stays g.V.Ground c.find.new.volume index c.args.oid.now c.in_ok-found.found.head bytes (length (changed (change_of c.args.edit.now) bytes)) has_n few)), ap (λ (f : Area → ℕ). f area) kept.free)
     ]) c.edit_small.ensures.small c.edit_small.ensures.free
 
@@ -126,7 +127,7 @@ returns-in-None-clause-sound g c = IfErr-weaker c.edit_small.result _ _ (λ faul
     let enough = need (λ stays. never (kept_stays g.V.Ground c.args.volume.now c.find.new.volume (place_of c.args.oid.now) (Small bytes) (length (changed (change_of c.args.edit.now) bytes)) kept (subst (λ (t : Content). StaysSmall g.V.Ground c.args.volume.now (place_of c.args.oid.now) t (length (changed (change_of c.args.edit.now) bytes))) is_small stays))) area in
     let asked = edit_need_is (g.V.Ground.geometry c.args.volume.now) (change_of c.args.edit.now) content area some ∙ ap (λ (t : Content). most_need (g.V.Ground.geometry c.args.volume.now) (change_of c.args.edit.now) (height_in t) area) is_small in
     elim (grows (change_of c.args.edit.now) bytes range) [
-      | inl same ↦ omega (arith, enough, ap (λ (f : Area → ℕ). f area) kept.free, ap (λ (y : Geometry). growth_need y (count_of (change_of c.args.edit.now)) 0 area) geo, asked, same (g.V.Ground.geometry c.args.volume.now) area)
+      | inl same ↦ enough_kept _ _ _ _ _ enough (ap (λ (f : Area → ℕ). f area) kept.free) (ap (λ (y : Geometry). growth_need y (count_of (change_of c.args.edit.now)) 0 area) geo) (asked ∙ same (g.V.Ground.geometry c.args.volume.now) area)
       | inr few ↦ absurd (never (less_stays g.V.Ground c.find.new.volume index c.args.oid.now c.in_ok-found.found.head bytes (length (changed (change_of c.args.edit.now) bytes)) has_n few))
     ])) c.edit_small.ensures.sound
 
@@ -182,7 +183,7 @@ returns-in-Some-clause-free g c = on_ok_weaker c.edit_large.result (λ free told
     let some : count_of (change_of c.args.edit.now) ≢ 0 = λ none. absurd (omega (arith, none, c.count.ensures, c.if-count-eq0.false)) in
     let geo = g.V.Ground.leads_geometry c.args.volume.now c.find.new.volume kept.leads in
     let asked = edit_need_is (g.V.Ground.geometry c.args.volume.now) (change_of c.args.edit.now) content area some ∙ ap (λ (t : Content). most_need (g.V.Ground.geometry c.args.volume.now) (change_of c.args.edit.now) (height_in t) area) is_large in
-    omega (arith, free area, ap (λ (f : Area → ℕ). f area) kept.free, ap (λ (y : Geometry). most_need y (change_of c.args.edit.now) c.in-Some.root.height area) geo, asked)) c.edit_large.ensures.free
+    takes_kept _ _ _ _ _ _ (free area) (ap (λ (f : Area → ℕ). f area) kept.free) (ap (λ (y : Geometry). most_need y (change_of c.args.edit.now) c.in-Some.root.height area) geo) asked) c.edit_large.ensures.free
 
 pub returns-in-Some-clause-touches : goal.returns-in-Some-clause-touches
 returns-in-Some-clause-touches g c = on_ok_weaker c.edit_large.result (λ t. omega (arith, t, c.find.ensures.kept.touched)) c.edit_large.ensures.touches
@@ -203,7 +204,7 @@ returns-in-Some-clause-sound g c = IfErr-weaker c.edit_large.result _ _ (λ faul
     sound damage told_n in_use_n index bytes has_n (λ area.
     let enough = need (λ stays. subst (λ (t : Content). StaysSmall g.V.Ground c.args.volume.now (place_of c.args.oid.now) t (length (changed (change_of c.args.edit.now) bytes))) is_large stays) area in
     let asked = edit_need_is (g.V.Ground.geometry c.args.volume.now) (change_of c.args.edit.now) content area some ∙ ap (λ (t : Content). most_need (g.V.Ground.geometry c.args.volume.now) (change_of c.args.edit.now) (height_in t) area) is_large in
-    omega (arith, enough, ap (λ (f : Area → ℕ). f area) kept.free, ap (λ (y : Geometry). most_need y (change_of c.args.edit.now) c.in-Some.root.height area) geo, asked))) c.edit_large.ensures.sound
+    enough_kept _ _ _ _ _ enough (ap (λ (f : Area → ℕ). f area) kept.free) (ap (λ (y : Geometry). most_need y (change_of c.args.edit.now) c.in-Some.root.height area) geo) asked)) c.edit_large.ensures.sound
 
 -- ---- what is asked
 

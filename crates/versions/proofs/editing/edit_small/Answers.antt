@@ -1,4 +1,4 @@
-use Rattle.std.proofs.Common.{◌≡◌, ◌≤◌, ◌+◌, ℕ, List, length, subst, sym, ap, ◌∙◌, arith}
+use Rattle.std.proofs.Common.{◌≡◌, ◌≤◌, ◌+◌, ℕ, List, length, refl, subst, sym, ap, ◌∙◌, arith}
 use Rattle.std.proofs.lemmas.Result.{IfErr-weaker, IfOk-weaker, on_ok_weaker}
 use Rattle.ex_base.specs.declared.geometry.Geometry.{Geometry}
 use Rattle.ex_base.specs.declared.names.Area.{Area}
@@ -7,12 +7,14 @@ use Rattle.object_records.specs.Record.{Small}
 use Rattle.file_bodies.specs.Files.{HasBody}
 use Rattle.versions.specs.Versions.{StaysSmall, changed, place_of}
 use Rattle.ex_base.specs.Needs.{growth_need}
+use Rattle.ex_base.specs.Sizes.{object_most}
 use Rattle.versions.specs.Edited.{change_of, TurnsVersion}
 use Rattle.versions.specs.Damage.{no_tree, small}
 use Rattle.versions.proofs.Faults.{bytes_kept, step_version}
 use Rattle.versions.proofs.Standing.{kept_version}
 use Rattle.versions.proofs.Becoming.{kept_turned, kept_in_use, kept_stays}
 use Rattle.ex_base.proofs.Handed.{cause_of}
+use Rattle.versions.proofs.Needed.{enough_kept, few_as, takes_kept}
 use Rattle.versions.proofs.editing.edit_small.Goals as goal
 
 pub returns-in-Ok-clause-size : goal.returns-in-Ok-clause-size
@@ -49,7 +51,8 @@ pub returns-in-Ok-clause-free : goal.returns-in-Ok-clause-free
 returns-in-Ok-clause-free g c = on_ok_weaker c.put_edited.result (λ free area.
     let kept = c.edited_small.ensures.kept in
     let geo = g.V.Ground.leads_geometry c.args.volume.now c.edited_small.new.volume kept.leads in
-    omega (arith, free area, ap (λ (f : Area → ℕ). f area) kept.free, ap (λ (y : Geometry). growth_need y c.count.result 0 area) geo, ap (λ (n : ℕ). growth_need (g.V.Ground.geometry c.args.volume.now) n 0 area) c.count.ensures)) c.put_edited.ensures.free
+    takes_kept _ _ _ _ _ _ (free area) (ap (λ (f : Area → ℕ). f area) kept.free)
+    (ap (λ (y : Geometry). growth_need y c.count.result 0 area) geo ∙ ap (λ (n : ℕ). growth_need (g.V.Ground.geometry c.args.volume.now) n 0 area) c.count.ensures) refl) c.put_edited.ensures.free
 
 pub returns-in-Ok-clause-touches : goal.returns-in-Ok-clause-touches
 returns-in-Ok-clause-touches g c = on_ok_weaker c.put_edited.result (λ t. omega (arith, t, c.edited_small.ensures.kept.touched)) c.put_edited.ensures.touches
@@ -63,13 +66,14 @@ returns-in-Ok-clause-sound g c = IfErr-weaker c.put_edited.result _ _ (λ fault 
     let same : c.deref.result.now ≡ changed (change_of c.args.edit.now) bytes = c.deref.ensures.value ∙ c.in-Ok.ensures.bytes told index has.stored.body c.args.head.now bytes stands has.stored.spelled long in
     let in_use_n = kept_in_use g.V.Ground c.args.volume.now c.edited_small.new.volume kept in_use in
     let geo = g.V.Ground.leads_geometry c.args.volume.now c.edited_small.new.volume kept.leads in
-    let few : length c.deref.result.now ≤ length bytes + c.count.result = omega (arith, c.in-Ok.ensures.len, ap length c.deref.ensures.value, long, c.count.ensures) in
+    let few : length c.deref.result.now ≤ length bytes + c.count.result = few_as _ _ _ _ _ _ c.in-Ok.ensures.len (ap length c.deref.ensures.value) long c.count.ensures in
     let size : length (g.V.Ground.image c.edited_small.new.volume c.args.oid.now.page.0) ≡ (g.V.Ground.geometry c.edited_small.new.volume).page_size =
     ap (λ (f : ℕ → List ℕ). length (f c.args.oid.now.page.0)) kept.images ∙ subst (λ (p : Place). length (g.V.Ground.image c.args.volume.now p.page.0) ≡ (g.V.Ground.geometry c.args.volume.now).page_size) c.place_of.ensures (c.in-Ok.ensures.page told index has.stored.body stands) ∙ sym (ap (λ (y : Geometry). y.page_size) geo) in
     sound damage told_n in_use_n index bytes has_n few size
     (λ never area.
     let enough = need (λ stays. never (kept_stays g.V.Ground c.args.volume.now c.edited_small.new.volume (place_of c.args.oid.now) (Small bytes) (length c.deref.result.now) kept (subst (λ (b : List ℕ). StaysSmall g.V.Ground c.args.volume.now (place_of c.args.oid.now) (Small bytes) (length b)) (sym same) stays))) area in
-    omega (arith, enough, ap (λ (f : Area → ℕ). f area) kept.free, ap (λ (y : Geometry). growth_need y c.count.result 0 area) geo, ap (λ (n : ℕ). growth_need (g.V.Ground.geometry c.args.volume.now) n 0 area) c.count.ensures))) c.put_edited.ensures.sound
+    enough_kept _ _ _ _ _ enough (ap (λ (f : Area → ℕ). f area) kept.free)
+    (ap (λ (y : Geometry). growth_need y c.count.result 0 area) geo ∙ ap (λ (n : ℕ). growth_need (g.V.Ground.geometry c.args.volume.now) n 0 area) c.count.ensures) refl)) c.put_edited.ensures.sound
 
 pub returns-in-Err-clause-sound : goal.returns-in-Err-clause-sound
 returns-in-Err-clause-sound g c = λ damage told in_use index bytes has long need.
@@ -125,3 +129,6 @@ put_edited-requires-clause-ready g c = g.V.Ground.leads_ready c.args.volume.now 
 
 pub put_edited-requires-clause-head : goal.put_edited-requires-clause-head
 put_edited-requires-clause-head g c = c.requires.head
+
+pub put_edited-requires-clause-limit : goal.put_edited-requires-clause-limit
+put_edited-requires-clause-limit g c = subst (λ (t : List ℕ). length t ≤ object_most) (sym c.deref.ensures.value) c.in-Ok.ensures.limit

@@ -1,10 +1,11 @@
-use Rattle.std.proofs.Common.{ℕ, List, length, ap, ◌∙◌, arith}
+use Rattle.std.proofs.Common.{ℕ, List, length, ap, ◌∙◌, arith, subst, sym}
 use Rattle.std.proofs.lemmas.List.{take_all}
 use Rattle.std.proofs.lemmas.Result.{IfErr-weaker, IfOk-weaker}
 use Rattle.versions.specs.Damage.{own}
-use Rattle.versions.specs.Versions.{changed}
+use Rattle.versions.specs.Versions.{changed, InRange}
 use Rattle.versions.specs.Edited.{change_of}
 use Rattle.versions.proofs.Results.{ok_of}
+use Rattle.versions.proofs.Needed.{changed_most, changed_limit}
 use Rattle.versions.proofs.editing.edited_by.Goals as goal
 
 pub returns-in-Ok-clause-bytes : goal.returns-in-Ok-clause-bytes
@@ -52,3 +53,14 @@ returns-in-Ok-clause-sound g c = IfErr-weaker c.bytes_after.result _ _ (λ fault
 
 pub read_small-requires : goal.read_small-requires
 read_small-requires g c = c.requires.ready
+
+pub bytes_after-requires : goal.bytes_after-requires
+bytes_after-requires g c = subst (InRange (change_of c.args.edit.now)) (sym c.read_small.ensures.len) c.requires.range
+
+pub returns-in-Ok-clause-len : goal.returns-in-Ok-clause-len
+returns-in-Ok-clause-len g c = IfOk-weaker c.bytes_after.result _ _ (λ made is.
+    omega (arith, ap length is, changed_most (change_of c.args.edit.now) c.read_small.new.out (subst (InRange (change_of c.args.edit.now)) (sym c.read_small.ensures.len) c.requires.range), c.read_small.ensures.len)) c.bytes_after.ensures.bytes
+
+pub returns-in-Ok-clause-limit : goal.returns-in-Ok-clause-limit
+returns-in-Ok-clause-limit g c = IfOk-weaker c.bytes_after.result _ _ (λ made is.
+    omega (arith, ap length is, changed_limit (change_of c.args.edit.now) c.read_small.new.out (subst (InRange (change_of c.args.edit.now)) (sym c.read_small.ensures.len) c.requires.range) (omega (arith, c.requires.short, c.read_small.ensures.len)))) c.bytes_after.ensures.bytes

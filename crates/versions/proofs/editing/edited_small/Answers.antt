@@ -1,6 +1,7 @@
 use Rattle.std.proofs.Common.{arith}
 use Rattle.std.proofs.lemmas.Result.{IfErr-weaker, IfOk-weaker}
 use Rattle.versions.specs.Damage.{own}
+use Rattle.ex_base.proofs.Keeping.{keeps_refl}
 use Rattle.versions.proofs.editing.edited_small.Goals as goal
 
 pub returns-in-Ok-clause-bytes : goal.returns-in-Ok-clause-bytes
@@ -29,3 +30,10 @@ returns-in-Ok-clause-page g c = c.edited_by.ensures.page
 
 pub edited_by-requires-clause-ready : goal.edited_by-requires-clause-ready
 edited_by-requires-clause-ready g c = c.requires.ready
+
+pub returns-in-Err-clause-kept : goal.returns-in-Err-clause-kept
+returns-in-Err-clause-kept g c = keeps_refl g.V.Ground c.args.volume.now
+
+pub returns-in-Ok-clause-len : goal.returns-in-Ok-clause-len
+returns-in-Ok-clause-len g c = IfOk-weaker c.edited_by.result _ _ (λ made few.
+    omega (arith, few, c.deref_mut.ensures.len, c.in-Ok.ensures.len)) c.edited_by.ensures.len

@@ -1,5 +1,5 @@
-use Rattle.std.proofs.Common.{◌≡◌, true, false, length, ap, ◌∙◌, arith, inl, inr, ℕ, subst, sym}
-use Rattle.std.proofs.lemmas.Bool.{cases_lt}
+use Rattle.std.proofs.Common.{◌≡◌, true, false, length, refl, ap, ◌∙◌, arith, inl, inr, ℕ, subst, sym}
+use Rattle.std.proofs.lemmas.Bool.{cases_lt, false≢true}
 use Rattle.std.proofs.lemmas.Result.{IfErr-weaker, IfOk-weaker, on_ok_weaker}
 use Rattle.object_records.specs.Record.{Small}
 use Rattle.versions.specs.Versions.{place_of}
@@ -15,6 +15,7 @@ use Rattle.ex_base.specs.declared.geometry.Geometry.{Geometry}
 use Rattle.ex_base.specs.Needs.{growth_need}
 use Rattle.file_bodies.specs.Files.{HasBody}
 use Rattle.ex_base.specs.declared.names.Place.{Place}
+use Rattle.versions.proofs.Needed.{takes_kept}
 use Rattle.versions.proofs.editing.put_edited.Goals as goal
 use Rattle.ex_base.proofs.Results.{if_err_handed}
 
@@ -27,14 +28,14 @@ returns-in-Ok-true-clause-edited g c = λ told in_use index held has change.
 pub returns-in_err-check-clause-sound : goal.returns-in_err-check-clause-sound
 returns-in_err-check-clause-sound g c = if_err_handed c.from_residual.result _ _ c.from_residual.ensures.1 (λ damage told in_use index held has few size need.
     let never = never_stays g.V.Ground c.args.volume.now index c.args.oid.now c.args.head.now held (length c.args.bytes.now) c.place_of.result c.place_of.ensures has
-    (λ i was stands fits. let yes : c.in-Ok-false.field-0 ≡ true = (c.in-Ok-false.ensures.fits told i was stands).1 fits in let isnt : c.in-Ok-false.field-0 ≡ false = c.in-Ok-false.field-0-test in cc) in
+    (λ i was stands fits. let yes : c.in-Ok-false.field-0 ≡ true = (c.in-Ok-false.ensures.fits told i was stands).1 fits in let isnt : c.in-Ok-false.field-0 ≡ false = c.in-Ok-false.field-0-test in false≢true (sym isnt ∙ yes)) in
     elim (cases_lt 0 (length c.args.bytes.now)) [
       | inl some ↦
           let kept = c.in-Ok-false.ensures.kept c.in-Ok-false.field-0-test in
           let geo = g.V.Ground.leads_geometry c.args.volume.now c.put_small.new.volume kept.leads in
           let yes : c.is_grown.result ≡ true = c.is_grown.ensures.1 (some, omega (arith, few, held_most g.V.Ground c.args.volume.now index c.args.oid.now c.args.head.now held has, size, ap (λ y. y.page_size) geo)) in
           let isnt : c.is_grown.result ≡ false = c.in_err-check.ensures.fault.0 in
-          absurd cc
+          absurd (false≢true (sym isnt ∙ yes))
       | inr none ↦ never (less_stays g.V.Ground c.args.volume.now index c.args.oid.now c.args.head.now held (length c.args.bytes.now) has (omega (arith, none)))
     ])
 
@@ -42,7 +43,7 @@ pub returns-clause-edited : goal.returns-clause-edited
 returns-clause-edited g c = IfOk-weaker c.convert.result _ _ (λ done edited told in_use index held has change.
     let kept = c.in-Ok-false.ensures.kept c.in-Ok-false.field-0-test in
     let never = never_stays g.V.Ground c.args.volume.now index c.args.oid.now c.args.head.now held (length c.args.bytes.now) c.place_of.result c.place_of.ensures has
-    (λ i was stands fits. let yes : c.in-Ok-false.field-0 ≡ true = (c.in-Ok-false.ensures.fits told i was stands).1 fits in let isnt : c.in-Ok-false.field-0 ≡ false = c.in-Ok-false.field-0-test in cc) in
+    (λ i was stands fits. let yes : c.in-Ok-false.field-0 ≡ true = (c.in-Ok-false.ensures.fits told i was stands).1 fits in let isnt : c.in-Ok-false.field-0 ≡ false = c.in-Ok-false.field-0-test in false≢true (sym isnt ∙ yes)) in
     kept_turned g.V.Ground c.args.volume.now c.put_small.new.volume c.convert.new.volume index c.args.oid.now c.args.head.now (Small held) change c.args.bytes.now done.gone done.come kept
     (edited (g.V.Ground.leads_told c.args.volume.now c.put_small.new.volume kept.leads told) (kept_in_use g.V.Ground c.args.volume.now c.put_small.new.volume kept in_use) index held
     (kept_version g.V.Ground c.args.volume.now c.put_small.new.volume index c.args.oid.now c.args.head.now (Small held) held kept has)
@@ -51,7 +52,7 @@ returns-clause-edited g c = IfOk-weaker c.convert.result _ _ (λ done edited tol
 pub returns-clause-small : goal.returns-clause-small
 returns-clause-small g c = ok_of c.convert.result _ (λ told index held has stays.
     absurd (never_stays g.V.Ground c.args.volume.now index c.args.oid.now c.args.head.now held (length c.args.bytes.now) c.place_of.result c.place_of.ensures has
-    (λ i was stands fits. let yes : c.in-Ok-false.field-0 ≡ true = (c.in-Ok-false.ensures.fits told i was stands).1 fits in let isnt : c.in-Ok-false.field-0 ≡ false = c.in-Ok-false.field-0-test in cc) stays))
+    (λ i was stands fits. let yes : c.in-Ok-false.field-0 ≡ true = (c.in-Ok-false.ensures.fits told i was stands).1 fits in let isnt : c.in-Ok-false.field-0 ≡ false = c.in-Ok-false.field-0-test in false≢true (sym isnt ∙ yes)) stays))
 
 pub returns-clause-touches : goal.returns-clause-touches
 returns-clause-touches g c = on_ok_weaker c.convert.result (λ t. omega (arith, t, (c.in-Ok-false.ensures.kept c.in-Ok-false.field-0-test).touched)) c.convert.ensures.touches
@@ -61,7 +62,7 @@ returns-clause-sound g c = IfErr-weaker c.convert.result _ _ (λ fault sound dam
     let kept = c.in-Ok-false.ensures.kept c.in-Ok-false.field-0-test in
     let geo = g.V.Ground.leads_geometry c.args.volume.now c.put_small.new.volume kept.leads in
     let never = never_stays g.V.Ground c.args.volume.now index c.args.oid.now c.args.head.now held (length c.args.bytes.now) c.place_of.result c.place_of.ensures has
-    (λ i was stands fits. let yes : c.in-Ok-false.field-0 ≡ true = (c.in-Ok-false.ensures.fits told i was stands).1 fits in let isnt : c.in-Ok-false.field-0 ≡ false = c.in-Ok-false.field-0-test in cc) in
+    (λ i was stands fits. let yes : c.in-Ok-false.field-0 ≡ true = (c.in-Ok-false.ensures.fits told i was stands).1 fits in let isnt : c.in-Ok-false.field-0 ≡ false = c.in-Ok-false.field-0-test in false≢true (sym isnt ∙ yes)) in
     sound damage (g.V.Ground.leads_told c.args.volume.now c.put_small.new.volume kept.leads told) (kept_in_use g.V.Ground c.args.volume.now c.put_small.new.volume kept in_use) index held
     (kept_version g.V.Ground c.args.volume.now c.put_small.new.volume index c.args.oid.now c.args.head.now (Small held) held kept has)
     (λ area. rw (geo, kept.free) (need never area))) c.convert.ensures.sound
@@ -190,4 +191,5 @@ pub returns-clause-free : goal.returns-clause-free
 returns-clause-free g c = on_ok_weaker c.convert.result (λ free area.
     let kept = c.in-Ok-false.ensures.kept c.in-Ok-false.field-0-test in
     let geo = g.V.Ground.leads_geometry c.args.volume.now c.put_small.new.volume kept.leads in
-    omega (arith, free area, ap (λ (f : Area → ℕ). f area) kept.free, ap (λ (y : Geometry). growth_need y c.args.count 0 area) geo)) c.convert.ensures.free
+    takes_kept _ _ _ _ _ _ (free area) (ap (λ (f : Area → ℕ). f area) kept.free)
+    (ap (λ (y : Geometry). growth_need y c.args.count 0 area) geo) refl) c.convert.ensures.free

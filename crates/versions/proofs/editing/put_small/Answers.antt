@@ -1,6 +1,7 @@
 use Rattle.std.proofs.Common.{◌≡◌, true, false, refl}
 use Rattle.versions.proofs.Puts.{never_fits}
 use Rattle.ex_base.proofs.Keeping.{keeps_refl}
+use Rattle.std.proofs.lemmas.Bool.{false≢true}
 use Rattle.versions.proofs.editing.put_small.Goals as goal
 
 pub returns-then-bytes-gt-SMALL_MOST-clause-fits : goal.returns-then-bytes-gt-SMALL_MOST-clause-fits
@@ -57,3 +58,9 @@ put_small_by-requires-clause-ready g c = c.requires.ready
 
 pub put_small_by-requires-clause-head : goal.put_small_by-requires-clause-head
 put_small_by-requires-clause-head g c = c.requires.head
+
+pub returns-then-bytes-gt-SMALL_MOST-clause-put : goal.returns-then-bytes-gt-SMALL_MOST-clause-put
+returns-then-bytes-gt-SMALL_MOST-clause-put g c = λ t. absurd (false≢true t)
+
+pub returns-in-Err-clause-leads : goal.returns-in-Err-clause-leads
+returns-in-Err-clause-leads g c = g.V.Ground.leads_refl c.args.volume.now

@@ -1,3 +1,4 @@
+use Rattle.std.proofs.lemmas.Bool.{false≢true}
 use Rattle.std.proofs.Common.{◌≡◌, ◌+◌, ◌-◌, ℕ, List, true, false, length, sym, ap, ◌∙◌, arith}
 use Rattle.std.specs.Prelude.{take, drop}
 use Rattle.ex_base.specs.Bytes.{bytes_at}
@@ -10,7 +11,7 @@ returns-then-not-is_inside-clause-bytes c = λ bytes is range.
     let same = one_small c.in-Small.bytes.now bytes (ap content_of (sym c.in-Small.is) ∙ is) in
     let yes : c.is_inside.result ≡ true = c.is_inside.ensures.1 (omega (arith, range, ap length same)) in
     let isnt : c.is_inside.result ≡ false = c.if-not-is_inside.true in
-    absurd cc
+    absurd (false≢true (sym isnt ∙ yes))
 
 pub returns-clause-bytes : goal.returns-clause-bytes
 returns-clause-bytes c = λ bytes is range.

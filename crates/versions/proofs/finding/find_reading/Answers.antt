@@ -14,6 +14,7 @@ use Rattle.object_records.specs.Record.{BodyOf}
 use Rattle.object_records.specs.Reads.{small_record}
 use Rattle.versions.proofs.Standing.{found_is, told_size, file_at, one_body, small_version}
 use Rattle.versions.specs.Versions.{place_of}
+use Rattle.versions.proofs.Records.{told_head, told_small, told_root, told_large}
 use Rattle.versions.proofs.finding.find_reading.Goals as goal
 
 pub returns-in-Ok-Some-clause-told : goal.returns-in-Ok-Some-clause-told
@@ -146,3 +147,29 @@ body_at-requires g c = c.requires
 
 pub returns-in-Err-clause-sound : goal.returns-in-Err-clause-sound
 returns-in-Err-clause-sound g c = λ damage told file readable. c.in-Err.ensures.sound damage told (subst (λ (p : Place). HasFileOf g.V.Ground c.args.volume.now p.page.0) (sym c.place_of.ensures) file)
+
+pub returns-in-Ok-Some-clause-head : goal.returns-in-Ok-Some-clause-head
+returns-in-Ok-Some-clause-head g c = IfOk-weaker c.told_reading.result _ _ (λ found some. if_some_both found _ _ (λ f is.
+    told_head c.geometry-geometry.result c.args.oid.now.unique c.in-Ok-Some.body.now f is) some) c.told_reading.ensures.some
+
+pub returns-in-Ok-Some-clause-small : goal.returns-in-Ok-Some-clause-small
+returns-in-Ok-Some-clause-small g c = IfOk-weaker c.told_reading.result _ _ (λ found some. if_some_both found _ _ (λ f is.
+    told_small c.geometry-geometry.result c.args.oid.now.unique c.in-Ok-Some.body.now f is) some) c.told_reading.ensures.some
+
+pub returns-in-Ok-Some-clause-large : goal.returns-in-Ok-Some-clause-large
+returns-in-Ok-Some-clause-large g c = IfOk-weaker c.told_reading.result _ _ (λ found some. if_some_both found _ _ (λ f is.
+    told_large c.geometry-geometry.result c.args.oid.now.unique c.in-Ok-Some.body.now f is) some) c.told_reading.ensures.some
+
+pub returns-in-Ok-Some-clause-root : goal.returns-in-Ok-Some-clause-root
+returns-in-Ok-Some-clause-root g c = IfOk-weaker c.told_reading.result _ _ (λ found some. if_some_both found _ _ (λ f is.
+    told_root (g.V.Ground.geometry c.args.volume.now) c.args.oid.now.unique c.in-Ok-Some.body.now f (subst (λ (y : Geometry). IsTold y c.args.oid.now.unique c.in-Ok-Some.body.now f) c.geometry-geometry.ensures is)) some) c.told_reading.ensures.some
+
+pub returns-in-Ok-Some-clause-stands : goal.returns-in-Ok-Some-clause-stands
+returns-in-Ok-Some-clause-stands g c = IfOk-weaker c.told_reading.result _ _ (λ found some. if_some_both found _ _ (λ f is told file.
+    let whole = subst (λ (p : Place). HasFileOf g.V.Ground c.args.volume.now p.page.0) (sym c.place_of.ensures) file in
+    let stands = subst (λ (p : Place). HasSomeBody g.V.Ground c.args.volume.now p c.in-Ok-Some.body.now) c.place_of.ensures (match_some c.in-Ok-Some.field-0 c.in-Ok-Some.body _ _ c.in-Ok-Some.field-0-is (c.in-Ok-Some.ensures.found told whole)) in
+    record {
+      index = stands.index;
+      is = is.is;
+      has = record { body = c.in-Ok-Some.body.now; stands = stands.has; spelled = is.spelled; number = is.number };
+    }) some) c.told_reading.ensures.some

@@ -1,3 +1,4 @@
+use Rattle.std.proofs.lemmas.Bool.{false≢true}
 use Rattle.std.proofs.Common.{◌≡◌, ◌+◌, ◌≤◌, length, true, false, ap, ◌∙◌, arith, subst, sym}
 use Rattle.std.proofs.lemmas.Result.{IfErr-weaker, on_ok_weaker}
 use Rattle.ex_base.specs.Bytes.{bytes_at}
@@ -29,7 +30,7 @@ returns-in_err-check-clause-sound g c = if_err_handed c.from_residual-in_err-che
     let size : c.in_ok-found.found.size ≡ length bytes = at_some c.in_ok-told.told c.in_ok-found.found _ c.in_ok-found.ensures.some (c.in_ok-told.ensures.size told index head content bytes has) in
     let yes : c.is_inside.result ≡ true = c.is_inside.ensures.1 (omega (arith, range, size)) in
     let isnt : c.is_inside.result ≡ false = c.in_err-check.ensures.fault.0 in
-    cc)
+    false≢true (sym isnt ∙ yes))
 
 pub returns-in-None-clause-bytes : goal.returns-in-None-clause-bytes
 returns-in-None-clause-bytes g c = λ told index head content bytes has.

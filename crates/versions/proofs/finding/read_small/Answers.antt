@@ -4,7 +4,7 @@ use Rattle.object_records.specs.Reads.{small_record}
 use Rattle.std.proofs.lemmas.Result.{on_ok_weaker, IfErr-weaker}
 use Rattle.file_bodies.proofs.Belonging.{file_of_body}
 use Rattle.versions.specs.Damage.{of_page, unread}
-use Rattle.versions.proofs.Results.{of_found}
+use Rattle.versions.proofs.Results.{of_found, ok_of}
 use Rattle.versions.proofs.Standing.{one_body}
 use Rattle.versions.proofs.finding.read_small.Goals as goal
 
@@ -32,3 +32,6 @@ returns-in-Err-clause-fault g c = λ told. of_page (c.in-Err.ensures.fault told)
 
 pub returns-in-Ok-clause-cause : goal.returns-in-Ok-clause-cause
 returns-in-Ok-clause-cause g c = c.copy_small.ensures.cause _ _
+
+pub returns-in-Ok-clause-page : goal.returns-in-Ok-clause-page
+returns-in-Ok-clause-page g c = ok_of c.copy_small.result _ c.in-Ok.ensures.page

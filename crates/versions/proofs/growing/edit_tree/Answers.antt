@@ -10,6 +10,7 @@ use Rattle.versions.specs.declared.editing.Edit.TheVariants.{Append}
 use Rattle.versions.specs.Versions.{changed, IsTreeShape}
 use Rattle.versions.specs.Needs.{most_need}
 use Rattle.versions.specs.Edited.{change_of}
+use Rattle.versions.proofs.Needed.{asked_as, range_as, taken_as}
 use Rattle.versions.proofs.growing.edit_tree.Goals as goal
 
 pub append-requires-clause-pages : goal.append-requires-clause-pages
@@ -151,3 +152,85 @@ delete-requires-clause-ready g c = c.requires.ready
 
 pub delete-requires-clause-root : goal.delete-requires-clause-root
 delete-requires-clause-root g c = c.requires.root
+
+pub insert-requires-clause-leaves : goal.insert-requires-clause-leaves
+insert-requires-clause-leaves g c = λ some.
+    asked_as (g.V.Ground.geometry c.args.volume.now) (g.V.Ground.free c.args.volume.now) c.args.edit.now _ c.args.root.now.height c.in-Insert.is
+    c.requires.units Segment
+
+pub insert-requires-clause-pages : goal.insert-requires-clause-pages
+insert-requires-clause-pages g c = λ some.
+    asked_as (g.V.Ground.geometry c.args.volume.now) (g.V.Ground.free c.args.volume.now) c.args.edit.now _ c.args.root.now.height c.in-Insert.is
+    c.requires.units Page
+
+pub returns-in-Insert-clause-free : goal.returns-in-Insert-clause-free
+returns-in-Insert-clause-free g c = on_ok_both c.insert.result _ _ _ (λ leaves pages.
+    taken_as (g.V.Ground.geometry c.args.volume.now) (g.V.Ground.free c.args.volume.now) (g.V.Ground.free c.insert.new.blocks) c.args.edit.now _
+    c.args.root.now.height c.in-Insert.is leaves pages) c.insert.ensures.leaves c.insert.ensures.pages
+
+pub replace-requires-clause-leaves : goal.replace-requires-clause-leaves
+replace-requires-clause-leaves g c = λ some.
+    asked_as (g.V.Ground.geometry c.args.volume.now) (g.V.Ground.free c.args.volume.now) c.args.edit.now _ c.args.root.now.height c.in-Replace.is
+    c.requires.units Segment
+
+pub replace-requires-clause-pages : goal.replace-requires-clause-pages
+replace-requires-clause-pages g c = λ some.
+    asked_as (g.V.Ground.geometry c.args.volume.now) (g.V.Ground.free c.args.volume.now) c.args.edit.now _ c.args.root.now.height c.in-Replace.is
+    c.requires.units Page
+
+pub returns-in-Replace-clause-free : goal.returns-in-Replace-clause-free
+returns-in-Replace-clause-free g c = on_ok_both c.replace.result _ _ _ (λ leaves pages.
+    taken_as (g.V.Ground.geometry c.args.volume.now) (g.V.Ground.free c.args.volume.now) (g.V.Ground.free c.replace.new.blocks) c.args.edit.now _
+    c.args.root.now.height c.in-Replace.is leaves pages) c.replace.ensures.leaves c.replace.ensures.pages
+
+pub delete-requires-clause-leaves : goal.delete-requires-clause-leaves
+delete-requires-clause-leaves g c = λ some.
+    asked_as (g.V.Ground.geometry c.args.volume.now) (g.V.Ground.free c.args.volume.now) c.args.edit.now _ c.args.root.now.height c.in-Delete.is
+    c.requires.units Segment
+
+pub delete-requires-clause-pages : goal.delete-requires-clause-pages
+delete-requires-clause-pages g c = λ some.
+    asked_as (g.V.Ground.geometry c.args.volume.now) (g.V.Ground.free c.args.volume.now) c.args.edit.now _ c.args.root.now.height c.in-Delete.is
+    c.requires.units Page
+
+pub returns-in-Delete-clause-free : goal.returns-in-Delete-clause-free
+returns-in-Delete-clause-free g c = on_ok_both c.delete.result _ _ _ (λ leaves pages.
+    taken_as (g.V.Ground.geometry c.args.volume.now) (g.V.Ground.free c.args.volume.now) (g.V.Ground.free c.delete.new.blocks) c.args.edit.now _
+    c.args.root.now.height c.in-Delete.is leaves pages) c.delete.ensures.leaves c.delete.ensures.pages
+
+pub append-requires-clause-leaves : goal.append-requires-clause-leaves
+append-requires-clause-leaves g c = λ some.
+    omega (
+      arith,
+      asked_as (g.V.Ground.geometry c.args.volume.now) (g.V.Ground.free c.args.volume.now) c.args.edit.now _ c.args.root.now.height c.in-Append.is c.requires.units Segment,
+      counted_need (g.V.Ground.geometry c.args.volume.now) c.args.root.now.page (length c.in-Append.bytes.now) c.args.root.now.height Segment,
+    )
+
+pub returns-in-Insert-clause-size : goal.returns-in-Insert-clause-size
+returns-in-Insert-clause-size g c = IfOk-weaker c.insert.result _ _ (λ made size.
+    omega (arith, size, (range_as c.args.edit.now _ c.args.root.now.size c.in-Insert.is c.requires.range).1)) c.insert.ensures.size
+
+pub returns-in-Append-clause-size : goal.returns-in-Append-clause-size
+returns-in-Append-clause-size g c = IfOk-weaker c.append.result _ _ (λ made size.
+    omega (arith, size, range_as c.args.edit.now _ c.args.root.now.size c.in-Append.is c.requires.range)) c.append.ensures.size
+
+pub returns-in-Replace-clause-size : goal.returns-in-Replace-clause-size
+returns-in-Replace-clause-size g c = IfOk-weaker c.replace.result _ _ (λ made size. omega (arith, size, c.requires.root.small)) c.replace.ensures.size
+
+pub returns-in-Delete-clause-size : goal.returns-in-Delete-clause-size
+returns-in-Delete-clause-size g c = IfOk-weaker c.delete.result _ _ (λ made size. omega (arith, size, c.requires.root.small)) c.delete.ensures.size
+
+pub insert-requires-clause-pos : goal.insert-requires-clause-pos
+insert-requires-clause-pos g c = (range_as c.args.edit.now _ c.args.root.now.size c.in-Insert.is c.requires.range).0
+
+pub insert-requires-clause-limit : goal.insert-requires-clause-limit
+insert-requires-clause-limit g c = (range_as c.args.edit.now _ c.args.root.now.size c.in-Insert.is c.requires.range).1
+
+pub append-requires-clause-limit : goal.append-requires-clause-limit
+append-requires-clause-limit g c = range_as c.args.edit.now _ c.args.root.now.size c.in-Append.is c.requires.range
+
+pub replace-requires-clause-range : goal.replace-requires-clause-range
+replace-requires-clause-range g c = range_as c.args.edit.now _ c.args.root.now.size c.in-Replace.is c.requires.range
+
+pub delete-requires-clause-range : goal.delete-requires-clause-range
+delete-requires-clause-range g c = range_as c.args.edit.now _ c.args.root.now.size c.in-Delete.is c.requires.range

@@ -1,4 +1,4 @@
-use Rattle.std.proofs.Common.{subst, sym}
+use Rattle.std.proofs.Common.{subst, sym, ◌∙◌, arith}
 use Rattle.std.proofs.lemmas.Result.{IfErr-weaker, on_ok_weaker}
 use Rattle.ex_base.specs.declared.geometry.Geometry.{Geometry}
 use Rattle.ex_base.proofs.Results.{if_err_handed}
@@ -8,6 +8,7 @@ use Rattle.versions.proofs.Faults.{place_put}
 use Rattle.versions.proofs.Puts.{root_record}
 use Rattle.ex_base.proofs.Handed.{not_given, cause_here}
 use Rattle.versions.proofs.Results.{ok_of}
+use Rattle.std.proofs.lemmas.Bool.{false≢true}
 use Rattle.versions.proofs.growing.put_root.Goals as goal
 
 pub write_large-requires-clause-fits : goal.write_large-requires-clause-fits
@@ -87,3 +88,7 @@ returns-clause-cause g c = c.check.ensures.cause (g.V.Ground.faults c.args.volum
 
 pub change_body-requires-clause-ready : goal.change_body-requires-clause-ready
 change_body-requires-clause-ready g c = c.requires.ready
+
+pub returns-clause-sound : goal.returns-clause-sound
+returns-clause-sound g c = IfErr-weaker c.check.result _ _ (λ fault h damage told index was has long for placed.
+    false≢true (sym h.0 ∙ (c.in_ok-done.ensures.fits told index was has).1 (omega (arith, long)))) c.check.ensures.fault

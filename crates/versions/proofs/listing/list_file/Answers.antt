@@ -105,3 +105,6 @@ returns-in-Err-list_place-clause-cause g c = cause_since (g.V.Ground.faults c.ar
 
 pub list_place-requires : goal.list_place-requires
 list_place-requires g c = g.V.Ground.leads_ready c.args.volume.now c.next_place.new.pages (keeps_on g.V.Ground c.args.volume.now c.places.volume c.next_place.new.pages c.places.invariant.kept c.next_place.ensures.kept).leads c.requires
+
+pub next_place-requires : goal.next_place-requires
+next_place-requires g c = g.V.Ground.leads_ready c.args.volume.now c.places.volume c.places.invariant.kept.leads c.requires

@@ -1,7 +1,12 @@
-use Rattle.std.proofs.lemmas.Result.{IfErr-weaker}
+use Rattle.std.proofs.lemmas.Result.{IfErr-weaker, on_ok_weaker}
 use Rattle.versions.specs.Damage.{own, unread}
 use Rattle.ex_base.proofs.Handed.{not_given, cause_here}
 use Rattle.ex_base.proofs.Keeping.{keeps_refl}
+use Rattle.std.proofs.Common.{◌++◌, ap, ◌∙◌, leb-false, arith}
+use Rattle.versions.proofs.Results.{ok_of}
+use Rattle.object_records.specs.declared.Head.{Head}
+use Rattle.versions.specs.Listed.{oids_in}
+use Rattle.std.proofs.lemmas.Bool.{leb-true}
 use Rattle.versions.proofs.listing.list_place.Goals as goal
 use Rattle.ex_base.proofs.Results.{if_err_handed}
 
@@ -58,3 +63,17 @@ returns-clause-kept g c = c.head_at.ensures.kept
 
 pub head_at-requires : goal.head_at-requires
 head_at-requires g c = c.requires
+
+pub returns-clause-listed : goal.returns-clause-listed
+returns-clause-listed g c = on_ok_weaker c.put_oid.result (λ put told index body has.
+    put ∙ ap (λ (h : Head). c.args.oids.now.items ++ oids_in c.args.place h) (c.in_ok-head.ensures.head told index body has)) c.put_oid.ensures.put
+
+pub returns-clause-short : goal.returns-clause-short
+returns-clause-short g c = ok_of c.put_oid.result _ c.rank.ensures.short
+
+pub returns-clause-rises : goal.returns-clause-rises
+returns-clause-rises g c = ok_of c.put_oid.result _ (omega (arith, leb-true _ _ c.in_ok-check.ensures.holds, c.first_rank.ensures, c.rank.ensures.rank))
+
+pub returns-in_err-check-clause-sound : goal.returns-in_err-check-clause-sound
+returns-in_err-check-clause-sound g c = if_err_handed c.from_residual.result _ _ c.from_residual.ensures.1 (λ damage told le index body is has spelled.
+    omega (arith, le, leb-false _ _ c.in_err-check.ensures.fault.0, c.first_rank.ensures, c.rank.ensures.rank))
