@@ -10,12 +10,14 @@ mod EditRefusals
 mod Entries
 mod Filed
 mod Files
+mod LaterSessions
 mod Listing
 mod Made
 mod Naming
 mod Opened
 mod Closed
 mod Refusing
+mod StoppedSteps
 mod Relatives
 mod Removed
 mod ScanLines

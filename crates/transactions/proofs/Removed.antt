@@ -38,7 +38,7 @@ use Rattle.session_core.specs.declared.session.objects.Named.{Named}
 use Rattle.session_core.specs.declared.updates.ObjectUpdate.{ObjectUpdate}
 use Rattle.session_core.specs.declared.updates.ObjectUpdate.TheVariants as made
 use Rattle.session_core.specs.Counts.{free_in}
-use Rattle.session_core.specs.Finding.{IfShown, IsOutside, LineStops, NamesVersion, TellsVersion}
+use Rattle.session_core.specs.Finding.{IsMissing, IfShown, IsOutside, LineStops, NamesVersion, TellsVersion}
 use Rattle.session_core.specs.Meant.{meant}
 use Rattle.session_core.specs.Performed.{IsUpdate, charge_of}
 use Rattle.session_core.specs.Sessions.{SessionState, IsSession, volume_held}
@@ -51,7 +51,7 @@ use Rattle.transactions.specs.Editing.{room_refusal}
 use Rattle.transactions.specs.Lines.{Answered, UpdatesLine, WentOn}
 use Rattle.transactions.specs.Removing.{AcceptsOf, removal_need}
 use Rattle.transactions.proofs.Changed.{names_then}
-use Rattle.transactions.proofs.EditRefusals.{joined, names_frozen, names_live, opens, room_is, units_counted, update_counts}
+use Rattle.transactions.proofs.EditRefusals.{joined, misses, names_frozen, names_live, opens, room_is, units_counted, update_counts}
 use Rattle.transactions.proofs.Naming.{the_oid_named, the_version}
 use Rattle.transactions.proofs.Updated.{KeptTo, charge_most, machine_with, noted_steps, own_names, pick_then, room_left, same_machine, same_session, within_need}
 use Rattle.transactions.proofs.UpdateLines.{counted_then, line_refused, opened_then, update_done, update_stopped}
@@ -107,6 +107,17 @@ module _ {w : Outside} {before : View SessionState} (now : ShowsNow meant w befo
 -- ---- it is admitted, or not
 
 module _ {a b : Outside} {old mid : SessionState} (x : Reference) (read : OnlyFrames a b old mid) (is : IsSession old) (is_open : old.opened ≡ true) where
+  -- no version is named
+  pub destroy_missed : (why : Refusal) → IfShown a old (λ before. IsMissing before.machine x why) → IfShown a old (λ before. Answered before.machine (request.Destroy x) (Some why))
+  destroy_missed why missing before same now q =
+      let m = before.machine in
+      misses now (units_counted is before same) (opens is_open before same) x why (frozen m x ∷ has_versions m x ∷ limits m (request.Destroy x) q) (missing before same now)
+
+  pub drop_missed : (why : Refusal) → IfShown a old (λ before. IsMissing before.machine x why) → IfShown a old (λ before. Answered before.machine (request.DropVersion x) (Some why))
+  drop_missed why missing before same now q =
+      let m = before.machine in
+      misses now (units_counted is before same) (opens is_open before same) x why (current m x ∷ long_txn m 16 ∷ full m 0 0 ∷ branches m x ∷ []) (missing before same now)
+
   module _ (version : Named) (names : IfShown a old (λ before. NamesVersion before x version)) where
     -- the version that is told of, with the frames that were read
     told_of : (before : View SessionState) (same : before.session ≡ old) (now : ShowsNow meant a before) → TellsVersion (with_groups before mid) version.oid version.found

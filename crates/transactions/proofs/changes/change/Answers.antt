@@ -1,3 +1,5 @@
+use Rattle.transactions.proofs.Updated.{room_left}
+use Rattle.transactions.proofs.LaterSessions.{few_notes, has_room}
 use Rattle.std.proofs.Common.{sym, ◌≡◌, Some}
 use Rattle.table_model.specs.Requests.{reference_of}
 use Rattle.session_views.specs.declared.stop.Stop.TheVariants as stop
@@ -55,3 +57,17 @@ pub returns-clause-damage : goal.returns-clause-damage
 returns-clause-damage g c = then_damage (reference_of c.args.x.now) c.admit.ensures.only (g.H.World.outside c.update_objects.new.host) c.in-Err-update_objects.stop
     (admitted_with (λ (given : Admitted). oid_among c.args.session.now.names (reference_of c.args.x.now) ≡ Some given.version.oid) c.in-Ok-Ok.given c.in-Ok-Ok.field-0 c.in-Ok-Ok.field-0-is c.in-Ok-Ok.ensures.asked)
     c.in-Err-update_objects.ensures.damage
+
+pub size_after-requires-clause-size : goal.size_after-requires-clause-size
+size_after-requires-clause-size g c = (within_so c.args.session.now (asked_change c.args.asked.now) c.in-Ok-Ok.given c.in-Ok-Ok.field-0 c.in-Ok-Ok.field-0-is c.in-Ok-Ok.ensures.limits).size
+
+pub update_objects-requires-clause-updates : goal.update_objects-requires-clause-updates
+update_objects-requires-clause-updates g c =
+    let within = within_so c.args.session.now (asked_change c.args.asked.now) c.in-Ok-Ok.given c.in-Ok-Ok.field-0 c.in-Ok-Ok.field-0-is c.in-Ok-Ok.ensures.limits in
+    few_notes c.admit.ensures.only _ (room_left c.args.session.now c.in-Ok-Ok.given.need within.room).updates
+
+pub update_objects-requires-clause-room : goal.update_objects-requires-clause-room
+update_objects-requires-clause-room g c = has_room c.admit.ensures.only c.requires.room
+
+pub size_after-requires-clause-asked : goal.size_after-requires-clause-asked
+size_after-requires-clause-asked g c = c.requires.asked

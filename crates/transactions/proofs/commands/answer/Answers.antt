@@ -87,3 +87,231 @@ returns-in-Checkpoint-clause-damage g c = IfErr-weaker c.checkpoint.result _ _ (
 
 pub returns-in-Group-clause-damage : goal.returns-in-Group-clause-damage
 returns-in-Group-clause-damage g c = IfErr-weaker c.group.result _ _ (memory_damage (g.H.World.outside c.args.host.now) (g.H.World.outside c.args.host.now) c.args.session.now (names_version c.args.session.now (request_of c.args.command.now))) c.group.ensures.memory
+
+pub returns-in-Space-clause-unwritten : goal.returns-in-Space-clause-unwritten
+returns-in-Space-clause-unwritten g c = λ is. absurd (cc (is, ap request_of c.in-Space.is))
+
+pub returns-in-Log-clause-unwritten : goal.returns-in-Log-clause-unwritten
+returns-in-Log-clause-unwritten g c = λ is. absurd (cc (is, ap request_of c.in-Log.is))
+
+pub returns-in-Abort-clause-unwritten : goal.returns-in-Abort-clause-unwritten
+returns-in-Abort-clause-unwritten g c = λ is. absurd (cc (is, ap request_of c.in-Abort.is))
+
+pub returns-in-Checkpoint-clause-unwritten : goal.returns-in-Checkpoint-clause-unwritten
+returns-in-Checkpoint-clause-unwritten g c = λ is. absurd (cc (is, ap request_of c.in-Checkpoint.is))
+
+pub returns-in-Space-clause-logs : goal.returns-in-Space-clause-logs
+returns-in-Space-clause-logs g c = λ is. absurd (cc (is, ap request_of c.in-Space.is))
+
+pub returns-in-Log-clause-logs : goal.returns-in-Log-clause-logs
+returns-in-Log-clause-logs g c = λ is. absurd (cc (is, ap request_of c.in-Log.is))
+
+pub returns-in-Group-clause-logs : goal.returns-in-Group-clause-logs
+returns-in-Group-clause-logs g c = λ is. absurd (cc (is, ap request_of c.in-Group.is))
+
+pub returns-in-Group-clause-reached : goal.returns-in-Group-clause-reached
+returns-in-Group-clause-reached g c = λ is. absurd (cc (is, ap request_of c.in-Group.is))
+
+pub returns-in-Group-clause-reached_back : goal.returns-in-Group-clause-reached_back
+returns-in-Group-clause-reached_back g c = λ is. absurd (cc (is, ap request_of c.in-Group.is))
+
+pub returns-in-Close-clause-logs : goal.returns-in-Close-clause-logs
+returns-in-Close-clause-logs g c = λ is. absurd (cc (is, ap request_of c.in-Close.is))
+
+pub returns-in-Unfile-clause-logs : goal.returns-in-Unfile-clause-logs
+returns-in-Unfile-clause-logs g c = λ is. absurd (cc (is, ap request_of c.in-Unfile.is))
+
+pub returns-in-File-clause-logs : goal.returns-in-File-clause-logs
+returns-in-File-clause-logs g c = λ is. absurd (cc (is, ap request_of c.in-File.is))
+
+pub returns-in-Close-clause-reached : goal.returns-in-Close-clause-reached
+returns-in-Close-clause-reached g c = λ is. absurd (cc (is, ap request_of c.in-Close.is))
+
+pub returns-in-Abort-clause-logs : goal.returns-in-Abort-clause-logs
+returns-in-Abort-clause-logs g c = λ is. absurd (cc (is, ap request_of c.in-Abort.is))
+
+pub returns-in-Files-clause-logs : goal.returns-in-Files-clause-logs
+returns-in-Files-clause-logs g c = λ is. absurd (cc (is, ap request_of c.in-Files.is))
+
+pub returns-in-Close-clause-reached_back : goal.returns-in-Close-clause-reached_back
+returns-in-Close-clause-reached_back g c = λ is. absurd (cc (is, ap request_of c.in-Close.is))
+
+pub returns-in-Unfile-clause-reached : goal.returns-in-Unfile-clause-reached
+returns-in-Unfile-clause-reached g c = λ is. absurd (cc (is, ap request_of c.in-Unfile.is))
+
+pub returns-in-Begin-clause-logs : goal.returns-in-Begin-clause-logs
+returns-in-Begin-clause-logs g c = λ is. absurd (cc (is, ap request_of c.in-Begin.is))
+
+pub returns-in-Checkpoint-clause-logs : goal.returns-in-Checkpoint-clause-logs
+returns-in-Checkpoint-clause-logs g c = λ is. absurd (cc (is, ap request_of c.in-Checkpoint.is))
+
+pub returns-in-Space-clause-reached : goal.returns-in-Space-clause-reached
+returns-in-Space-clause-reached g c = λ is. absurd (cc (is, ap request_of c.in-Space.is))
+
+pub returns-in-File-clause-reached : goal.returns-in-File-clause-reached
+returns-in-File-clause-reached g c = λ is. absurd (cc (is, ap request_of c.in-File.is))
+
+pub returns-in-Log-clause-reached : goal.returns-in-Log-clause-reached
+returns-in-Log-clause-reached g c = λ is. absurd (cc (is, ap request_of c.in-Log.is))
+
+pub returns-in-Space-clause-reached_back : goal.returns-in-Space-clause-reached_back
+returns-in-Space-clause-reached_back g c = λ is. absurd (cc (is, ap request_of c.in-Space.is))
+
+pub returns-in-Unfile-clause-reached_back : goal.returns-in-Unfile-clause-reached_back
+returns-in-Unfile-clause-reached_back g c = λ is. absurd (cc (is, ap request_of c.in-Unfile.is))
+
+pub returns-in-Log-clause-reached_back : goal.returns-in-Log-clause-reached_back
+returns-in-Log-clause-reached_back g c = λ is. absurd (cc (is, ap request_of c.in-Log.is))
+
+pub returns-in-File-clause-reached_back : goal.returns-in-File-clause-reached_back
+returns-in-File-clause-reached_back g c = λ is. absurd (cc (is, ap request_of c.in-File.is))
+
+pub returns-in-Abort-clause-reached : goal.returns-in-Abort-clause-reached
+returns-in-Abort-clause-reached g c = λ is. absurd (cc (is, ap request_of c.in-Abort.is))
+
+pub returns-in-Commit-clause-reached_back : goal.returns-in-Commit-clause-reached_back
+returns-in-Commit-clause-reached_back g c = λ is. absurd (cc (is, ap request_of c.in-Commit.is))
+
+pub returns-in-Files-clause-reached : goal.returns-in-Files-clause-reached
+returns-in-Files-clause-reached g c = λ is. absurd (cc (is, ap request_of c.in-Files.is))
+
+pub returns-in-Begin-clause-reached : goal.returns-in-Begin-clause-reached
+returns-in-Begin-clause-reached g c = λ is. absurd (cc (is, ap request_of c.in-Begin.is))
+
+pub returns-in-Checkpoint-clause-reached : goal.returns-in-Checkpoint-clause-reached
+returns-in-Checkpoint-clause-reached g c = λ is. absurd (cc (is, ap request_of c.in-Checkpoint.is))
+
+pub returns-in-Files-clause-reached_back : goal.returns-in-Files-clause-reached_back
+returns-in-Files-clause-reached_back g c = λ is. absurd (cc (is, ap request_of c.in-Files.is))
+
+pub returns-in-Begin-clause-reached_back : goal.returns-in-Begin-clause-reached_back
+returns-in-Begin-clause-reached_back g c = λ is. absurd (cc (is, ap request_of c.in-Begin.is))
+
+pub returns-in-Checkpoint-clause-reached_back : goal.returns-in-Checkpoint-clause-reached_back
+returns-in-Checkpoint-clause-reached_back g c = λ is. absurd (cc (is, ap request_of c.in-Checkpoint.is))
+
+pub returns-in-Group-clause-idle_close : goal.returns-in-Group-clause-idle_close
+returns-in-Group-clause-idle_close g c = λ name is. absurd (cc (is, ap request_of c.in-Group.is))
+
+pub returns-in-Group-clause-none_counts : goal.returns-in-Group-clause-none_counts
+returns-in-Group-clause-none_counts g c = λ is. absurd (cc (is, ap request_of c.in-Group.is))
+
+pub returns-in-Unfile-clause-idle_close : goal.returns-in-Unfile-clause-idle_close
+returns-in-Unfile-clause-idle_close g c = λ name is. absurd (cc (is, ap request_of c.in-Unfile.is))
+
+pub returns-in-File-clause-idle_close : goal.returns-in-File-clause-idle_close
+returns-in-File-clause-idle_close g c = λ name is. absurd (cc (is, ap request_of c.in-File.is))
+
+pub returns-in-Group-clause-idle : goal.returns-in-Group-clause-idle
+returns-in-Group-clause-idle g c = λ is. absurd (cc (is, ap request_of c.in-Group.is))
+
+pub returns-in-Files-clause-idle_close : goal.returns-in-Files-clause-idle_close
+returns-in-Files-clause-idle_close g c = λ name is. absurd (cc (is, ap request_of c.in-Files.is))
+
+pub returns-in-Commit-clause-idle_close : goal.returns-in-Commit-clause-idle_close
+returns-in-Commit-clause-idle_close g c = λ name is. absurd (cc (is, ap request_of c.in-Commit.is))
+
+pub returns-in-Group-clause-given_back : goal.returns-in-Group-clause-given_back
+returns-in-Group-clause-given_back g c = λ is. absurd (cc (is, ap request_of c.in-Group.is))
+
+pub returns-in-Group-clause-taken_back : goal.returns-in-Group-clause-taken_back
+returns-in-Group-clause-taken_back g c = λ is. absurd (cc (is, ap request_of c.in-Group.is))
+
+pub returns-in-Begin-clause-idle_close : goal.returns-in-Begin-clause-idle_close
+returns-in-Begin-clause-idle_close g c = λ name is. absurd (cc (is, ap request_of c.in-Begin.is))
+
+pub returns-in-Checkpoint-clause-idle_close : goal.returns-in-Checkpoint-clause-idle_close
+returns-in-Checkpoint-clause-idle_close g c = λ name is. absurd (cc (is, ap request_of c.in-Checkpoint.is))
+
+pub returns-in-Close-clause-none_counts : goal.returns-in-Close-clause-none_counts
+returns-in-Close-clause-none_counts g c = λ is. absurd (cc (is, ap request_of c.in-Close.is))
+
+pub returns-in-Unfile-clause-none_counts : goal.returns-in-Unfile-clause-none_counts
+returns-in-Unfile-clause-none_counts g c = λ is. absurd (cc (is, ap request_of c.in-Unfile.is))
+
+pub returns-in-File-clause-none_counts : goal.returns-in-File-clause-none_counts
+returns-in-File-clause-none_counts g c = λ is. absurd (cc (is, ap request_of c.in-File.is))
+
+pub returns-in-Group-clause-takes_none : goal.returns-in-Group-clause-takes_none
+returns-in-Group-clause-takes_none g c = λ is. absurd (cc (is, ap request_of c.in-Group.is))
+
+pub returns-in-Close-clause-given_back : goal.returns-in-Close-clause-given_back
+returns-in-Close-clause-given_back g c = λ is. absurd (cc (is, ap request_of c.in-Close.is))
+
+pub returns-in-Close-clause-taken_back : goal.returns-in-Close-clause-taken_back
+returns-in-Close-clause-taken_back g c = λ is. absurd (cc (is, ap request_of c.in-Close.is))
+
+pub returns-in-Unfile-clause-idle : goal.returns-in-Unfile-clause-idle
+returns-in-Unfile-clause-idle g c = λ is. absurd (cc (is, ap request_of c.in-Unfile.is))
+
+pub returns-in-Abort-clause-none_counts : goal.returns-in-Abort-clause-none_counts
+returns-in-Abort-clause-none_counts g c = λ is. absurd (cc (is, ap request_of c.in-Abort.is))
+
+pub returns-in-Commit-clause-none_counts : goal.returns-in-Commit-clause-none_counts
+returns-in-Commit-clause-none_counts g c = λ is. absurd (cc (is, ap request_of c.in-Commit.is))
+
+pub returns-in-Files-clause-none_counts : goal.returns-in-Files-clause-none_counts
+returns-in-Files-clause-none_counts g c = λ is. absurd (cc (is, ap request_of c.in-Files.is))
+
+pub returns-in-File-clause-idle : goal.returns-in-File-clause-idle
+returns-in-File-clause-idle g c = λ is. absurd (cc (is, ap request_of c.in-File.is))
+
+pub returns-in-Unfile-clause-given_back : goal.returns-in-Unfile-clause-given_back
+returns-in-Unfile-clause-given_back g c = λ is. absurd (cc (is, ap request_of c.in-Unfile.is))
+
+pub returns-in-Unfile-clause-taken_back : goal.returns-in-Unfile-clause-taken_back
+returns-in-Unfile-clause-taken_back g c = λ is. absurd (cc (is, ap request_of c.in-Unfile.is))
+
+pub returns-in-Begin-clause-none_counts : goal.returns-in-Begin-clause-none_counts
+returns-in-Begin-clause-none_counts g c = λ is. absurd (cc (is, ap request_of c.in-Begin.is))
+
+pub returns-in-File-clause-given_back : goal.returns-in-File-clause-given_back
+returns-in-File-clause-given_back g c = λ is. absurd (cc (is, ap request_of c.in-File.is))
+
+pub returns-in-File-clause-taken_back : goal.returns-in-File-clause-taken_back
+returns-in-File-clause-taken_back g c = λ is. absurd (cc (is, ap request_of c.in-File.is))
+
+pub returns-in-Commit-clause-idle : goal.returns-in-Commit-clause-idle
+returns-in-Commit-clause-idle g c = λ is. absurd (cc (is, ap request_of c.in-Commit.is))
+
+pub returns-in-Files-clause-idle : goal.returns-in-Files-clause-idle
+returns-in-Files-clause-idle g c = λ is. absurd (cc (is, ap request_of c.in-Files.is))
+
+pub returns-in-Close-clause-takes_none : goal.returns-in-Close-clause-takes_none
+returns-in-Close-clause-takes_none g c = λ is. absurd (cc (is, ap request_of c.in-Close.is))
+
+pub returns-in-Abort-clause-given_back : goal.returns-in-Abort-clause-given_back
+returns-in-Abort-clause-given_back g c = λ is. absurd (cc (is, ap request_of c.in-Abort.is))
+
+pub returns-in-Commit-clause-taken_back : goal.returns-in-Commit-clause-taken_back
+returns-in-Commit-clause-taken_back g c = λ is. absurd (cc (is, ap request_of c.in-Commit.is))
+
+pub returns-in-Files-clause-given_back : goal.returns-in-Files-clause-given_back
+returns-in-Files-clause-given_back g c = λ is. absurd (cc (is, ap request_of c.in-Files.is))
+
+pub returns-in-Files-clause-taken_back : goal.returns-in-Files-clause-taken_back
+returns-in-Files-clause-taken_back g c = λ is. absurd (cc (is, ap request_of c.in-Files.is))
+
+pub returns-in-Checkpoint-clause-idle : goal.returns-in-Checkpoint-clause-idle
+returns-in-Checkpoint-clause-idle g c = λ is. absurd (cc (is, ap request_of c.in-Checkpoint.is))
+
+pub returns-in-Begin-clause-idle : goal.returns-in-Begin-clause-idle
+returns-in-Begin-clause-idle g c = λ is. absurd (cc (is, ap request_of c.in-Begin.is))
+
+pub returns-in-Unfile-clause-takes_none : goal.returns-in-Unfile-clause-takes_none
+returns-in-Unfile-clause-takes_none g c = λ is. absurd (cc (is, ap request_of c.in-Unfile.is))
+
+pub returns-in-Begin-clause-given_back : goal.returns-in-Begin-clause-given_back
+returns-in-Begin-clause-given_back g c = λ is. absurd (cc (is, ap request_of c.in-Begin.is))
+
+pub returns-in-Begin-clause-taken_back : goal.returns-in-Begin-clause-taken_back
+returns-in-Begin-clause-taken_back g c = λ is. absurd (cc (is, ap request_of c.in-Begin.is))
+
+pub returns-in-Checkpoint-clause-given_back : goal.returns-in-Checkpoint-clause-given_back
+returns-in-Checkpoint-clause-given_back g c = λ is. absurd (cc (is, ap request_of c.in-Checkpoint.is))
+
+pub returns-in-Checkpoint-clause-taken_back : goal.returns-in-Checkpoint-clause-taken_back
+returns-in-Checkpoint-clause-taken_back g c = λ is. absurd (cc (is, ap request_of c.in-Checkpoint.is))
+
+pub returns-in-File-clause-takes_none : goal.returns-in-File-clause-takes_none
+returns-in-File-clause-takes_none g c = λ is. absurd (cc (is, ap request_of c.in-File.is))

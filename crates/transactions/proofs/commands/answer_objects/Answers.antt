@@ -1,4 +1,6 @@
-use Rattle.std.proofs.Common.{◌∙◌, ap, refl, sym, ◌&&◌}
+use Rattle.transactions.specs.Commands.{IsCopy}
+use Rattle.table_model.specs.Requests.{request_of}
+use Rattle.std.proofs.Common.{◌∙◌, ap, refl, sym, ◌&&◌, subst}
 use Rattle.std.proofs.lemmas.Bool.{and_parts}
 use Rattle.table_model.specs.Words.{is_name}
 use Rattle.std.specs.Prelude.{option_map}
@@ -126,3 +128,48 @@ replace-requires-clause-given g c = (and_parts (is_reference (reference_of c.in-
 
 pub append-requires-clause-given : goal.append-requires-clause-given
 append-requires-clause-given g c = (and_parts (is_reference (reference_of c.in-Append.x)) (is_given (given_of c.in-Append.given)) (sym (ap (λ (r : Request). is_request r) (ap request_of c.in-Append.is)) ∙ c.requires.form)).1
+
+pub returns-in-List-clause-shares : goal.returns-in-List-clause-shares
+returns-in-List-clause-shares g c = λ copy. absurd (subst IsCopy (ap request_of c.in-List.is) copy)
+
+pub returns-in-Destroy-clause-shares : goal.returns-in-Destroy-clause-shares
+returns-in-Destroy-clause-shares g c = λ copy. absurd (subst IsCopy (ap request_of c.in-Destroy.is) copy)
+
+pub returns-in-Size-clause-shares : goal.returns-in-Size-clause-shares
+returns-in-Size-clause-shares g c = λ copy. absurd (subst IsCopy (ap request_of c.in-Size.is) copy)
+
+pub returns-in-Stat-clause-shares : goal.returns-in-Stat-clause-shares
+returns-in-Stat-clause-shares g c = λ copy. absurd (subst IsCopy (ap request_of c.in-Stat.is) copy)
+
+pub returns-in-Digest-clause-shares : goal.returns-in-Digest-clause-shares
+returns-in-Digest-clause-shares g c = λ copy. absurd (subst IsCopy (ap request_of c.in-Digest.is) copy)
+
+pub returns-in-Versions-clause-shares : goal.returns-in-Versions-clause-shares
+returns-in-Versions-clause-shares g c = λ copy. absurd (subst IsCopy (ap request_of c.in-Versions.is) copy)
+
+pub returns-in-DropVersion-clause-shares : goal.returns-in-DropVersion-clause-shares
+returns-in-DropVersion-clause-shares g c = λ copy. absurd (subst IsCopy (ap request_of c.in-DropVersion.is) copy)
+
+pub returns-in-Read-clause-shares : goal.returns-in-Read-clause-shares
+returns-in-Read-clause-shares g c = λ copy. absurd (subst IsCopy (ap request_of c.in-Read.is) copy)
+
+pub returns-in-Insert-clause-shares : goal.returns-in-Insert-clause-shares
+returns-in-Insert-clause-shares g c = λ copy. absurd (subst IsCopy (ap request_of c.in-Insert.is) copy)
+
+pub returns-in-Append-clause-shares : goal.returns-in-Append-clause-shares
+returns-in-Append-clause-shares g c = λ copy. absurd (subst IsCopy (ap request_of c.in-Append.is) copy)
+
+pub returns-in-Replace-clause-shares : goal.returns-in-Replace-clause-shares
+returns-in-Replace-clause-shares g c = λ copy. absurd (subst IsCopy (ap request_of c.in-Replace.is) copy)
+
+pub returns-in-Delete-clause-shares : goal.returns-in-Delete-clause-shares
+returns-in-Delete-clause-shares g c = λ copy. absurd (subst IsCopy (ap request_of c.in-Delete.is) copy)
+
+pub returns-in-Scan-clause-shares : goal.returns-in-Scan-clause-shares
+returns-in-Scan-clause-shares g c = λ copy. absurd (subst IsCopy (ap request_of c.in-Scan.is) copy)
+
+pub returns-in-Next-clause-shares : goal.returns-in-Next-clause-shares
+returns-in-Next-clause-shares g c = λ copy. absurd (subst IsCopy (ap request_of c.in-Next.is) copy)
+
+pub returns-in-Create-clause-shares : goal.returns-in-Create-clause-shares
+returns-in-Create-clause-shares g c = λ copy. absurd (subst IsCopy (ap request_of c.in-Create.is) copy)

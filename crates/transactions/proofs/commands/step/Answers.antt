@@ -1,4 +1,7 @@
-use Rattle.std.proofs.Common.{◌∙◌, ap}
+use Rattle.disk_model.specs.Runs.{disk_refl}
+use Rattle.session_core.proofs.Quiet.{nothing_changed}
+use Rattle.transactions.proofs.StoppedSteps.{stopped, not_answered, not_stopped, of_any_fault}
+use Rattle.std.proofs.Common.{◌∙◌, ap, sym}
 use Rattle.session_core.specs.Sessions.{SessionState}
 use Rattle.disk_model.specs.Changes.{changes_refl}
 use Rattle.volume_model.specs.Durable.{IsDurable}
@@ -50,3 +53,45 @@ returns-then-is_err-clause-unused g c = c.answer-told.ensures.answers.writes
 
 pub returns-else-is_err-clause-unused : goal.returns-else-is_err-clause-unused
 returns-else-is_err-clause-unused g c = c.answer-told.ensures.answers.writes
+
+pub returns-then-is_err-clause-reached : goal.returns-then-is_err-clause-reached
+returns-then-is_err-clause-reached g c = λ is before same shown opened. stopped c.answer-told.result _ (sym c.if-is_err.ensures.value)
+
+pub returns-then-is_err-clause-reached_back : goal.returns-then-is_err-clause-reached_back
+returns-then-is_err-clause-reached_back g c = λ is before same shown opened. stopped c.answer-told.result _ (sym c.if-is_err.ensures.value)
+
+pub returns-then-is_err-clause-stepped : goal.returns-then-is_err-clause-stepped
+returns-then-is_err-clause-stepped g c = λ before same shown. not_answered c.answer-told.result _ (sym c.if-is_err.ensures.value)
+
+pub returns-then-is_err-clause-idle_close : goal.returns-then-is_err-clause-idle_close
+returns-then-is_err-clause-idle_close g c = λ name is. stopped c.answer-told.result _ (sym c.if-is_err.ensures.value)
+
+pub returns-then-is_err-clause-taken_back : goal.returns-then-is_err-clause-taken_back
+returns-then-is_err-clause-taken_back g c = λ is opened. stopped c.answer-told.result _ (sym c.if-is_err.ensures.value)
+
+pub returns-then-is_err-clause-given_back : goal.returns-then-is_err-clause-given_back
+returns-then-is_err-clause-given_back g c = λ is opened. stopped c.answer-told.result _ (sym c.if-is_err.ensures.value)
+
+pub returns-then-is_err-clause-idle : goal.returns-then-is_err-clause-idle
+returns-then-is_err-clause-idle g c = λ is. stopped c.answer-told.result _ (sym c.if-is_err.ensures.value)
+
+pub returns-then-is_err-clause-shares : goal.returns-then-is_err-clause-shares
+returns-then-is_err-clause-shares g c = λ copy. stopped c.answer-told.result _ (sym c.if-is_err.ensures.value)
+
+pub returns-then-is_err-clause-refused : goal.returns-then-is_err-clause-refused
+returns-then-is_err-clause-refused g c = not_answered c.answer-told.result _ (sym c.if-is_err.ensures.value)
+
+pub returns-then-is_err-clause-stays_up : goal.returns-then-is_err-clause-stays_up
+returns-then-is_err-clause-stays_up g c = stopped c.answer-told.result _ (sym c.if-is_err.ensures.value)
+
+pub returns-then-is_err-clause-goes_down : goal.returns-then-is_err-clause-goes_down
+returns-then-is_err-clause-goes_down g c = of_any_fault c.answer-told.result (ap (λ (s : SessionState). s.down) c.put_down.ensures)
+
+pub returns-else-is_err-clause-goes_down : goal.returns-else-is_err-clause-goes_down
+returns-else-is_err-clause-goes_down g c = not_stopped c.answer-told.result _ (sym c.if-is_err.ensures.value)
+
+pub returns-then-is_down-clause-reads : goal.returns-then-is_down-clause-reads
+returns-then-is_down-clause-reads g c = λ reads. (nothing_changed (g.H.World.outside c.args.host.now) c.args.session.now).reads
+
+pub returns-then-is_down-clause-only : goal.returns-then-is_down-clause-only
+returns-then-is_down-clause-only g c = disk_refl (g.H.World.outside c.args.host.now)

@@ -1,4 +1,7 @@
-use Rattle.std.proofs.Common.{◌∙◌, Ok, refl, sym, ap}
+use Rattle.transactions.proofs.LaterSessions.{has_room}
+use Rattle.object_files.specs.Reads.{catalog_on}
+use Rattle.object_files.specs.Catalog.{CatalogOf}
+use Rattle.std.proofs.Common.{◌∙◌, Ok, refl, sym, ap, subst, ℕ, List}
 use Rattle.std.specs.Prelude.{option_map}
 use Rattle.table_model.specs.Requests.{reference_of}
 use Rattle.session_core.proofs.Naming.{frames_twice}
@@ -74,3 +77,9 @@ returns-in-Err-catalog-clause-damage g c =
 
 pub returns-clause-asked : goal.returns-clause-asked
 returns-clause-asked g c = oid_named c.args.session.now (reference_of c.args.x.now) c.in-Ok-version_of.version c.in-Ok.told c.in-Ok-version_of.ensures.found c.in-Ok.ensures.asked
+
+pub view_of-requires : goal.view_of-requires
+view_of-requires g c = subst (λ (b : List ℕ). CatalogOf b (catalog_on b)) (sym c.deref.ensures.value) c.in-Ok-catalog.ensures.catalog
+
+pub catalog-requires : goal.catalog-requires
+catalog-requires g c = record { room = has_room c.named.ensures.only c.requires.room }

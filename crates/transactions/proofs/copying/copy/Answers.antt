@@ -1,3 +1,7 @@
+use Rattle.std.proofs.Common.{arith}
+use Rattle.transactions.specs.Making.{making_need}
+use Rattle.transactions.proofs.Updated.{room_left}
+use Rattle.transactions.proofs.LaterSessions.{has_room}
 use Rattle.std.proofs.Common.{◌∙◌, Ok, Some, sym, subst, ◌≡◌}
 use Rattle.std.specs.Prelude.{option_map}
 use Rattle.ex_base.specs.declared.notes.NoteKind.{NoteKind}
@@ -69,3 +73,14 @@ make-requires-clause-unbound g c =
     let bind = option_map (λ name. name.now) c.args.bind in
     let can = admitted_with (CanCopy c.args.session.now bind) c.in-Ok-Ok.original c.in-Ok-Ok.field-0 c.in-Ok-Ok.field-0-is c.in-Ok-Ok.ensures.limits in
     unbound_then bind c.admit.ensures.only can.untaken
+
+pub make-requires-clause-room : goal.make-requires-clause-room
+make-requires-clause-room g c = has_room c.admit.ensures.only c.requires.room
+
+pub make-requires-clause-can : goal.make-requires-clause-can
+make-requires-clause-can g c =
+    let bind = option_map (λ name. name.now) c.args.bind in
+    let original = c.in-Ok-Ok.original in
+    let can = admitted_with (CanCopy c.args.session.now bind) original c.in-Ok-Ok.field-0 c.in-Ok-Ok.field-0-is c.in-Ok-Ok.ensures.limits in
+    let room = (room_left c.admit.new.session making_need (can_make bind original c.admit.ensures.only can)).pages in
+    (omega (arith, room), can.number)

@@ -1,4 +1,7 @@
-use Rattle.std.proofs.Common.{◌≡◌, ◌∙◌, None, sym, ap}
+use Rattle.transactions.proofs.LaterSessions.{has_room, is_open_still}
+use Rattle.object_files.specs.Reads.{catalog_on}
+use Rattle.object_files.specs.Catalog.{CatalogOf}
+use Rattle.std.proofs.Common.{◌≡◌, ◌∙◌, None, sym, ap, subst, ℕ, List}
 use Rattle.std.specs.Prelude.{option_map}
 use Rattle.object_files.specs.Catalog.{Catalog}
 use Rattle.table_model.specs.Requests as request
@@ -71,3 +74,12 @@ returns-clause-damage g c = later_damage c.args.session.now c.catalog.new.self c
 
 pub make-requires-clause-unbound : goal.make-requires-clause-unbound
 make-requires-clause-unbound g c = unbound_then (option_map (λ name. name.now) c.args.bind) c.catalog.ensures.frames (sym c.is_taken.ensures ∙ c.if-is_taken.false)
+
+pub view_of-requires : goal.view_of-requires
+view_of-requires g c = subst (λ (b : List ℕ). CatalogOf b (catalog_on b)) (sym c.deref.ensures.value) c.in-Ok.ensures.catalog
+
+pub make-requires-clause-room : goal.make-requires-clause-room
+make-requires-clause-room g c = has_room c.catalog.ensures.frames c.requires.room
+
+pub make-requires-clause-is_open : goal.make-requires-clause-is_open
+make-requires-clause-is_open g c = is_open_still c.catalog.ensures.frames (sym c.is_open.ensures.value ∙ c.if-not-is_open.false)

@@ -1,4 +1,8 @@
-use Rattle.std.proofs.Common.{◌≡◌, ◌∙◌, Some, None, sym, rules}
+use Rattle.transactions.specs.declared.edits.Need.{Need}
+use Rattle.session_core.proofs.Naming.{later_stops}
+use Rattle.transactions.proofs.EditRefusals.{limit_at}
+use Rattle.transactions.proofs.LaterSessions.{has_room}
+use Rattle.std.proofs.Common.{◌≡◌, ◌∙◌, Some, None, sym, rules, refl, ap}
 use Rattle.table_model.specs.Requests.{reference_of}
 use Rattle.transactions.specs.Asking.{asked_change}
 use Rattle.transactions.specs.Editing.{bytes_refusal}
@@ -70,3 +74,34 @@ returns-in-Err-stays_small-clause-damage g c = then_damage (reference_of c.args.
 
 pub returns-in-None-clause-asked : goal.returns-in-None-clause-asked
 returns-in-None-clause-asked g c = oid_named c.args.session.now (reference_of c.args.x.now) c.in-Ok.version _ c.in-Ok.is c.in_ok-version.ensures.asked
+
+pub need_of-need-requires-clause-count : goal.need_of-need-requires-clause-count
+need_of-need-requires-clause-count g c = c.in_default.ensures.count refl
+
+pub stays_small-requires-clause-after : goal.stays_small-requires-clause-after
+stays_small-requires-clause-after g c = c.in_default.ensures.after refl
+
+pub stays_small-requires-clause-inside : goal.stays_small-requires-clause-inside
+stays_small-requires-clause-inside g c = c.in_default.ensures.inside refl
+
+pub stays_small-requires-clause-room : goal.stays_small-requires-clause-room
+stays_small-requires-clause-room g c = has_room c.named.ensures.only c.requires.room
+
+pub stays_small-requires-clause-size : goal.stays_small-requires-clause-size
+stays_small-requires-clause-size g c = limit_at c.in-Ok.version _ c.in-Ok.is c.in_ok-version.ensures.limit
+
+pub refuses_bytes-requires-clause-size : goal.refuses_bytes-requires-clause-size
+refuses_bytes-requires-clause-size g c = limit_at c.in-Ok.version _ c.in-Ok.is c.in_ok-version.ensures.limit
+
+pub returns-in-Err-stays_small-clause-stops : goal.returns-in-Err-stays_small-clause-stops
+returns-in-Err-stays_small-clause-stops g c = later_stops (g.H.World.outside c.args.host.now) (g.H.World.outside c.named.new.host) (g.H.World.outside c.stays_small.new.disk) c.in-Err-stays_small.stop c.named.ensures.only.reads c.in-Err-stays_small.ensures.stops
+
+pub returns-in-None-clause-limits : goal.returns-in-None-clause-limits
+returns-in-None-clause-limits g c =
+    record {
+      size = limit_at c.in-Ok.version _ c.in-Ok.is c.in_ok-version.ensures.limit;
+      bytes = sym c.in_default.ensures.is;
+      count = c.in_default.ensures.count refl;
+      room = sym (room_back c.need_of-need.result c.refuses_room.result (frames_twice c.named.ensures.only c.stays_small.ensures.only) c.refuses_room.ensures) ∙ c.in-None.is;
+      charge = ap (λ (n : Need). n.charge) c.need_of-need.ensures.is;
+    }

@@ -1,3 +1,6 @@
+use Rattle.session_views.specs.declared.stop.Stop.TheVariants as stop
+use Rattle.session_core.proofs.Quiet.{nothing_changed}
+use Rattle.transactions.proofs.LaterSessions.{scans_stop}
 use Rattle.std.proofs.Common.{◌∙◌, ◌&&◌, ℕ, List, Ok, arith, refl, subst, sym}
 use Rattle.std.specs.Prelude.{nat_le}
 use Rattle.std.proofs.lemmas.Bool.{and_parts, leb-true}
@@ -33,3 +36,6 @@ returns-in-Ok-add_group-clause-line g c =
 
 pub returns-in-Err-clause-line : goal.returns-in-Err-clause-line
 returns-in-Err-clause-line g c = group_unmade c.args.name.now c.args.frames c.args.mru c.requires.session _ c.in-Err.ensures.err refl
+
+pub returns-in_default-clause-line : goal.returns-in_default-clause-line
+returns-in_default-clause-line g c = scans_stop (nothing_changed _ _) _ stop.Memory tt (λ before same now. tt)

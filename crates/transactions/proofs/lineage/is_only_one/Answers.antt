@@ -1,3 +1,5 @@
+use Rattle.transactions.proofs.LaterSessions.{has_room}
+use Rattle.session_core.proofs.Quiet.{nothing_changed}
 use Rattle.std.proofs.Common.{◌∙◌, Some, List, refl, ap, subst}
 use Rattle.std.specs.Prelude.{Option, not, slice_get}
 use Rattle.std.proofs.lemmas.Option.{same_Some}
@@ -60,3 +62,9 @@ returns-in_err-found-clause-damage g c =
     let b = g.H.World.outside c.find_version.new.disk in
     if_err_handed c.from_residual-in_err-found.result _ _ c.from_residual-in_err-found.ensures.1
     (later_damage c.args.session.now c.relatives.new.self c.relatives.ensures.only b own _ (none_wider mid b c.relatives.new.self own _ c.in_err-found.ensures.damage))
+
+pub returns-then-is_none-clause-only : goal.returns-then-is_none-clause-only
+returns-then-is_none-clause-only g c = nothing_changed _ _
+
+pub find_version-requires : goal.find_version-requires
+find_version-requires g c = record { room = has_room c.relatives.ensures.only c.requires.room }

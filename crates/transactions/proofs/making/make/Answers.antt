@@ -1,4 +1,5 @@
-use Rattle.std.proofs.Common.{subst, arith}
+use Rattle.session_core.specs.Sessions.{SessionState}
+use Rattle.std.proofs.Common.{subst, arith, ap, ◌∙◌}
 use Rattle.std.specs.Prelude.{option_map}
 use Rattle.ex_base.specs.declared.names.OpNote.{OpNote}
 use Rattle.session_core.specs.Updates.{Noted, note_with}
@@ -26,4 +27,38 @@ returns-in-Ok-bind_if-clause-made g c =
       kept = c.in-Ok.ensures.kept;
       holds = c.in-Ok.ensures.holds;
       bound = bound_then (option_map (λ name. name.now) c.args.bind) oid did c.in-Ok-bind_if.ensures.ok;
+    }
+
+pub returns-in-Err-clause-sound : goal.returns-in-Err-clause-sound
+returns-in-Err-clause-sound g c = c.in-Err.ensures.sound
+
+pub returns-in-Err-clause-damage : goal.returns-in-Err-clause-damage
+returns-in-Err-clause-damage g c = c.in-Err.ensures.damage
+
+pub returns-in-Err-clause-stops : goal.returns-in-Err-clause-stops
+returns-in-Err-clause-stops g c = c.in-Err.ensures.stops
+
+pub update_objects-requires-clause-updates : goal.update_objects-requires-clause-updates
+update_objects-requires-clause-updates g c = (room_left c.args.session.now making_need c.requires.has_room).updates
+
+pub returns-in-Err-bind_if-clause-went : goal.returns-in-Err-bind_if-clause-went
+returns-in-Err-bind_if-clause-went g c =
+    record {
+      only = c.update_objects.ensures.only;
+      writes = c.update_objects.ensures.writes;
+      geometry = ap (λ (s : SessionState). s.geometry) c.in-Err-bind_if.ensures.err ∙ c.update_objects.ensures.geometry;
+      log = ap (λ (s : SessionState). s.log) c.in-Err-bind_if.ensures.err ∙ c.update_objects.ensures.log;
+      down = ap (λ (s : SessionState). s.down) c.in-Err-bind_if.ensures.err ∙ c.update_objects.ensures.down;
+      moments = c.update_objects.ensures.any_moment;
+    }
+
+pub returns-in-Ok-bind_if-clause-went : goal.returns-in-Ok-bind_if-clause-went
+returns-in-Ok-bind_if-clause-went g c =
+    record {
+      only = c.update_objects.ensures.only;
+      writes = c.update_objects.ensures.writes;
+      geometry = ap (λ (s : SessionState). s.geometry) c.in-Ok-bind_if.ensures.ok ∙ c.update_objects.ensures.geometry;
+      log = ap (λ (s : SessionState). s.log) c.in-Ok-bind_if.ensures.ok ∙ c.update_objects.ensures.log;
+      down = ap (λ (s : SessionState). s.down) c.in-Ok-bind_if.ensures.ok ∙ c.update_objects.ensures.down;
+      moments = c.update_objects.ensures.any_moment;
     }

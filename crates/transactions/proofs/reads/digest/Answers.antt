@@ -1,3 +1,4 @@
+use Rattle.transactions.proofs.LaterSessions.{has_room}
 use Rattle.table_model.specs.Requests.{reference_of}
 use Rattle.transactions.proofs.Digests.{digest_line, digest_refused, digest_stopped}
 use Rattle.transactions.proofs.Naming.{misses_so, names_so}
@@ -32,3 +33,6 @@ pub returns-clause-damage : goal.returns-clause-damage
 returns-clause-damage g c = then_damage (reference_of c.args.x.now) c.named.ensures.only (g.H.World.outside c.digest_bytes.new.disk) c.in-Err-digest_bytes.stop
     (oid_named c.args.session.now (reference_of c.args.x.now) c.in-Ok-Ok.version c.in-Ok-Ok.field-0 c.in-Ok-Ok.field-0-is c.in-Ok-Ok.ensures.asked)
     c.in-Err-digest_bytes.ensures.damage
+
+pub digest_bytes-requires-clause-room : goal.digest_bytes-requires-clause-room
+digest_bytes-requires-clause-room g c = has_room c.named.ensures.only c.requires.room

@@ -1,3 +1,4 @@
+use Rattle.transactions.proofs.LaterSessions.{has_room}
 use Rattle.std.proofs.Common.{◌∙◌, ℕ, List, ap}
 use Rattle.std.specs.Prelude.{option_map}
 use Rattle.object_files.specs.Catalog.{FileEntry}
@@ -33,3 +34,6 @@ returns-in-Err-clause-damage g c = catalog_told (g.H.World.outside c.args.host.n
 
 pub returns-clause-damage : goal.returns-clause-damage
 returns-clause-damage g c = later_damage c.args.session.now c.catalog.new.self c.catalog.ensures.frames (g.H.World.outside c.objects_of.new.disk) no_version c.in-Err-objects_of.stop c.in-Err-objects_of.ensures.damage
+
+pub objects_of-requires : goal.objects_of-requires
+objects_of-requires g c = record { room = has_room c.catalog.ensures.frames c.requires.room }

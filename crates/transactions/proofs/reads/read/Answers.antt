@@ -1,3 +1,4 @@
+use Rattle.transactions.proofs.LaterSessions.{has_room}
 use Rattle.std.proofs.Common.{◌≡◌, ◌∙◌, ◌≤◌, ◌+◌, ◌<◌, ℕ, length, ap, arith}
 use Rattle.std.specs.Prelude.{drop}
 use Rattle.ex_base.specs.Bytes.{bytes_at}
@@ -54,3 +55,6 @@ returns-in-Err-read_found-clause-damage g c =
     found_damage (reference_of c.args.x.now) c.named.ensures.only (g.H.World.outside c.read_found.new.disk) version.found.root c.in-Err-read_found.stop
     (oid_named s (reference_of c.args.x.now) version c.in-Ok-Ok.field-0 c.in-Ok-Ok.field-0-is c.in-Ok-Ok.ensures.asked)
     (roots_at s (g.H.World.outside c.args.host.now) version c.in-Ok-Ok.field-0 c.in-Ok-Ok.field-0-is c.in-Ok-Ok.ensures.rooted) c.in-Err-read_found.ensures.damage
+
+pub read_found-requires-clause-room : goal.read_found-requires-clause-room
+read_found-requires-clause-room g c = has_room c.named.ensures.only c.requires.room

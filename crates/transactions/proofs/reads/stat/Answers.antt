@@ -1,3 +1,4 @@
+use Rattle.transactions.proofs.LaterSessions.{has_room}
 use Rattle.std.proofs.Common.{◌≡◌, ◌∙◌, ℕ, min, take, refl, ap}
 use Rattle.table_model.specs.Requests.{reference_of}
 use Rattle.session_views.specs.declared.stop.Stop.TheVariants as stop
@@ -46,3 +47,6 @@ returns-in-Err-shape-clause-damage g c =
     let version = c.in-Ok-Ok.version in
     shape_damage c.args.session.now c.named.new.self c.named.ensures.only (g.H.World.outside c.shape.new.disk) (named_as c.args.session.now x) c.in-Some.root version.oid c.in-Err-shape.stop
     (rooted_at c.args.session.now (g.H.World.outside c.args.host.now) version c.in-Some.root c.in-Ok-Ok.field-0 c.in-Ok-Ok.field-0-is c.in-Ok-Ok.ensures.rooted c.in-Some.is) c.in-Err-shape.ensures.damage
+
+pub shape-requires-clause-room : goal.shape-requires-clause-room
+shape-requires-clause-room g c = has_room c.named.ensures.only c.requires.room

@@ -1,3 +1,4 @@
+use Rattle.transactions.proofs.LaterSessions.{has_room}
 use Rattle.std.proofs.Common.{◌∙◌}
 use Rattle.table_model.specs.Requests.{reference_of}
 use Rattle.transactions.proofs.Naming.{misses_so, names_so}
@@ -33,3 +34,6 @@ pub returns-in-Err-relatives-clause-damage : goal.returns-in-Err-relatives-claus
 returns-in-Err-relatives-clause-damage g c = then_damage (reference_of c.args.x.now) c.named.ensures.only (g.H.World.outside c.relatives.new.disk) c.in-Err-relatives.stop
     (oid_named c.args.session.now (reference_of c.args.x.now) c.in-Ok-Ok.version c.in-Ok-Ok.field-0 c.in-Ok-Ok.field-0-is c.in-Ok-Ok.ensures.asked)
     c.in-Err-relatives.ensures.damage
+
+pub relatives-requires : goal.relatives-requires
+relatives-requires g c = record { room = has_room c.named.ensures.only c.requires.room }

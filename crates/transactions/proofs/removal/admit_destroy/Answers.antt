@@ -1,3 +1,7 @@
+use Rattle.transactions.proofs.Naming.{misses_so}
+use Rattle.transactions.proofs.Removed.{destroy_missed}
+use Rattle.session_core.proofs.Naming.{later_stops}
+use Rattle.transactions.proofs.LaterSessions.{has_room}
 use Rattle.std.proofs.Common.{◌∙◌, sym}
 use Rattle.table_model.specs.Requests.{reference_of}
 use Rattle.session_core.proofs.Naming.{frames_twice}
@@ -65,3 +69,12 @@ returns-in-Err-is_only_one-clause-damage g c = then_damage (reference_of c.args.
 
 pub returns-in-None-clause-asked : goal.returns-in-None-clause-asked
 returns-in-None-clause-asked g c = oid_named c.args.session.now (reference_of c.args.x.now) c.in-Ok-Ok.version c.in-Ok-Ok.field-0 c.in-Ok-Ok.field-0-is c.in-Ok-Ok.ensures.asked
+
+pub returns-in-Err-is_only_one-clause-stops : goal.returns-in-Err-is_only_one-clause-stops
+returns-in-Err-is_only_one-clause-stops g c = later_stops (g.H.World.outside c.args.host.now) (g.H.World.outside c.named.new.host) (g.H.World.outside c.is_only_one.new.host) c.in-Err-is_only_one.stop c.named.ensures.only.reads c.in-Err-is_only_one.ensures.stops
+
+pub is_only_one-requires : goal.is_only_one-requires
+is_only_one-requires g c = record { room = has_room c.named.ensures.only c.requires.room }
+
+pub returns-in-Ok-Err-clause-refused : goal.returns-in-Ok-Err-clause-refused
+returns-in-Ok-Err-clause-refused g c = destroy_missed (reference_of c.args.x.now) c.named.ensures.only c.named.ensures.session c.requires.is_open c.in-Ok-Err.why (misses_so (reference_of c.args.x.now) c.in-Ok-Err.why c.in-Ok-Err.field-0 c.in-Ok-Err.field-0-is c.in-Ok-Err.ensures.named)

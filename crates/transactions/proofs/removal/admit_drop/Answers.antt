@@ -1,3 +1,7 @@
+use Rattle.transactions.proofs.Naming.{misses_so}
+use Rattle.transactions.proofs.Removed.{drop_missed}
+use Rattle.session_core.proofs.Naming.{later_stops}
+use Rattle.transactions.proofs.LaterSessions.{has_room}
 use Rattle.std.proofs.Common.{◌∙◌, sym}
 use Rattle.std.proofs.lemmas.Bool.{le-leb, lt-leb}
 use Rattle.table_model.specs.Requests.{reference_of}
@@ -63,3 +67,12 @@ returns-in-Err-branches-clause-damage g c = then_damage (reference_of c.args.x.n
 
 pub returns-clause-asked : goal.returns-clause-asked
 returns-clause-asked g c = oid_named c.args.session.now (reference_of c.args.x.now) c.in-Ok-Ok.version c.in-Ok-Ok.field-0 c.in-Ok-Ok.field-0-is c.in-Ok-Ok.ensures.asked
+
+pub returns-in-Err-branches-clause-stops : goal.returns-in-Err-branches-clause-stops
+returns-in-Err-branches-clause-stops g c = later_stops (g.H.World.outside c.args.host.now) (g.H.World.outside c.named.new.host) (g.H.World.outside c.branches.new.host) c.in-Err-branches.stop c.named.ensures.only.reads c.in-Err-branches.ensures.stops
+
+pub branches-requires : goal.branches-requires
+branches-requires g c = record { room = has_room c.named.ensures.only c.requires.room }
+
+pub returns-in-Ok-Err-clause-refused : goal.returns-in-Ok-Err-clause-refused
+returns-in-Ok-Err-clause-refused g c = drop_missed (reference_of c.args.x.now) c.named.ensures.only c.named.ensures.session c.requires.is_open c.in-Ok-Err.why (misses_so (reference_of c.args.x.now) c.in-Ok-Err.why c.in-Ok-Err.field-0 c.in-Ok-Err.field-0-is c.in-Ok-Err.ensures.named)

@@ -1,3 +1,6 @@
+use Rattle.transactions.proofs.Updated.{room_left}
+use Rattle.transactions.proofs.LaterSessions.{few_notes}
+use Rattle.transactions.proofs.LaterSessions.{has_room}
 use Rattle.std.proofs.Common.{◌≡◌, ◌∙◌, None, Some, sym}
 use Rattle.table_model.specs.Machines.{shown}
 use Rattle.table_model.specs.Requests.{reference_of}
@@ -53,3 +56,10 @@ pub returns-in-Err-update_objects-clause-damage : goal.returns-in-Err-update_obj
 returns-in-Err-update_objects-clause-damage g c = then_damage (reference_of c.args.x.now) c.admit_destroy.ensures.only (g.H.World.outside c.update_objects.new.host) c.in-Err-update_objects.stop
     (admitted_with (λ oid. oid_among c.args.session.now.names (reference_of c.args.x.now) ≡ Some oid) c.in-Ok-Ok.oid c.in-Ok-Ok.field-0 c.in-Ok-Ok.field-0-is c.in-Ok-Ok.ensures.asked)
     c.in-Err-update_objects.ensures.damage
+
+pub update_objects-requires-clause-room : goal.update_objects-requires-clause-room
+update_objects-requires-clause-room g c = has_room c.admit_destroy.ensures.only c.requires.room
+
+pub update_objects-requires-clause-updates : goal.update_objects-requires-clause-updates
+update_objects-requires-clause-updates g c =
+    few_notes c.admit_destroy.ensures.only _ (room_left c.args.session.now removal_need (admitted_with (λ oid. room_refusal c.args.session.now removal_need ≡ None) c.in-Ok-Ok.oid c.in-Ok-Ok.field-0 c.in-Ok-Ok.field-0-is c.in-Ok-Ok.ensures.limits)).updates

@@ -1,3 +1,6 @@
+use Rattle.session_views.specs.declared.stop.Stop.TheVariants as stop
+use Rattle.transactions.proofs.LaterSessions.{scans_stop}
+use Rattle.transactions.proofs.LaterSessions.{has_room}
 use Rattle.std.proofs.Common.{List, ℕ, Ok, subst, sym}
 use Rattle.std.specs.Prelude.{option_map}
 use Rattle.table_model.specs.Requests.{reference_of}
@@ -47,3 +50,12 @@ pub returns-in-Err-open_scan-clause-damage : goal.returns-in-Err-open_scan-claus
 returns-in-Err-open_scan-clause-damage g c = then_damage (reference_of c.args.x.now) c.named.ensures.only (g.H.World.outside c.open_scan.new.host) c.in-Err-open_scan.stop
     (oid_named c.args.session.now (reference_of c.args.x.now) c.in-Ok-opening_of.opening.version c.in-Ok.told c.in-Ok-opening_of.ensures.found c.in-Ok.ensures.asked)
     c.in-Err-open_scan.ensures.damage
+
+pub open_scan-requires-clause-room : goal.open_scan-requires-clause-room
+open_scan-requires-clause-room g c = has_room c.named.ensures.only c.requires.room
+
+pub returns-in_default-clause-line : goal.returns-in_default-clause-line
+returns-in_default-clause-line g c = scans_stop c.named.ensures.only _ stop.Memory tt (λ before same now. tt)
+
+pub returns-in-Err-clause-line : goal.returns-in-Err-clause-line
+returns-in-Err-clause-line g c = scans_stop c.named.ensures.only _ c.in-Err.stop c.in-Err.ensures.stops c.in-Err.ensures.sound

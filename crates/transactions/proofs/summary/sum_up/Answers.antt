@@ -1,3 +1,4 @@
+use Rattle.transactions.proofs.LaterSessions.{has_room}
 use Rattle.std.proofs.Common.{◌∙◌, ℕ, List, length, ap, subst}
 use Rattle.object_files.specs.Catalog.{Catalog}
 use Rattle.object_files.specs.Reads.{catalog_on}
@@ -23,3 +24,6 @@ returns g c =
     c.last_txn.result c.len.result c.in-Ok-total_in.totals c.used.result c.used-2.result
     (subst (λ (page : List ℕ). IfCatalog (g.H.World.outside c.catalog.new.disk) c.catalog.new.self page (λ before. AreTotals before.machine (catalog_on page).entries c.in-Ok-total_in.totals)) c.deref.ensures.value c.in-Ok-total_in.ensures.totals)
     (record { last_is = c.last_txn.ensures ∙ ap (λ (k : Catalog). k.last) view; files_is = c.len.ensures ∙ ap (λ (k : Catalog). length k.entries) view; pages_is = c.used.ensures; segs_is = c.used-2.ensures })
+
+pub total_in-requires-clause-room : goal.total_in-requires-clause-room
+total_in-requires-clause-room g c = has_room c.catalog.ensures.frames c.requires

@@ -1,3 +1,6 @@
+use Rattle.transactions.proofs.LaterSessions.{memory_stop}
+use Rattle.object_files.specs.Reads.{catalog_on}
+use Rattle.object_files.specs.Catalog.{CatalogOf}
 use Rattle.std.proofs.Common.{◌-◌, map}
 use Rattle.std.specs.Prelude.{Contains}
 use Rattle.object_files.specs.Catalog.{name_of}
@@ -39,3 +42,12 @@ returns-in-Ok g c =
     (if_no_error c.update_catalog.result (sym c.if-is_err.ensures.value) c.update_catalog.ensures.done) c.take_file.ensures.removed
     c.is_open.ensures.session c.catalog.ensures.frames (sym c.is_open.ensures.value ∙ c.if-not-is_open.false)
     (record { catalog = c.in_ok-page.ensures.catalog; read = c.in_ok-page.ensures.read }) c.requires.name
+
+pub view_of-requires : goal.view_of-requires
+view_of-requires g c = subst (λ (b : List ℕ). CatalogOf b (catalog_on b)) (sym c.deref.ensures.value) c.in_ok-page.ensures.catalog
+
+pub returns : goal.returns
+returns g c = memory_stop c.catalog.ensures.frames _ _ c.update_catalog.ensures.geometry c.update_catalog.ensures.log c.update_catalog.ensures.down
+
+pub returns-then-is_err : goal.returns-then-is_err
+returns-then-is_err g c = memory_stop c.catalog.ensures.frames _ _ c.update_catalog.ensures.geometry c.update_catalog.ensures.log c.update_catalog.ensures.down
