@@ -1,7 +1,7 @@
 -- What stands on a disk while the empty volume is written.
-use Rattle.std.proofs.Common.{◌≡◌, inl, inr, ⊎_elim, ℕ, ◌+◌, ◌-◌, ◌*◌, ◌≤◌, List, [], ◌∷◌, ◌++◌, length, take, drop, sym, ◌∙◌, ap, subst, arith, IsTrue, IsSome, is_some, Some}
+use Rattle.std.proofs.Common.{◌≡◌, inl, inr, ⊎_elim, ℕ, ◌+◌, ◌-◌, ◌*◌, ◌≤◌, ◌<◌, ◌↔◌, Bool, false, true≢false, List, [], ◌∷◌, ◌++◌, length, take, drop, sym, ◌∙◌, ap, subst, arith, IsTrue, IsSome, is_some, Some}
 use Rattle.std.specs.Prelude.{slice_index}
-use Rattle.std.proofs.lemmas.List.{take_rest}
+use Rattle.std.proofs.lemmas.List.{take-take, take_rest}
 use Rattle.std.proofs.lemmas.Option.{same_Some}
 use Rattle.ex_base.specs.Bytes.{part, repl, part-repl, part-repl_apart, length-repl, repl_same_outside, same_or_not, same_parts, part_joined, part_byte}
 use Rattle.ex_base.specs.Sizes.{volume_bytes, least_page, least_volume}
@@ -10,7 +10,8 @@ use Rattle.ex_base.specs.declared.geometry.Geometry.{Geometry}
 use Rattle.object_files.specs.Catalog.{CatalogOf, fresh_catalog}
 use Rattle.volume_model.specs.Parts.{SuperOf}
 use Rattle.volume_model.proofs.FreshVolume.{fresh_stands}
-use Rattle.disk_model.specs.Outside.{Outside, IsWorld, DiskOnly, Only, ReadsOnly, SinkOnly, RestsOn, Leaves, Along, WritesNothing}
+use Rattle.command_line.specs.declared.status.Status.TheVariants.{AlreadyVolume, DiskFault, Done, Memory, OutputFault, TooSmall}
+use Rattle.disk_model.specs.Outside.{Outside, IsWorld, DiskOnly, Only, ReadsOnly, Rose, SinkOnly, RestsOn, Leaves, Along, WritesNothing}
 use Rattle.disk_model.specs.Runs.{honest_on, leaves_wider, along_start, along_quiet, along_disk, along_sink, rests_quiet}
 use Rattle.disk_model.specs.Calls.{Tears}
 use Rattle.disk_model.specs.Changes.{SameBut, ChangesWithin, InRange, same_but_range, same_but_refl, changes_trans, changes_write, changes_wider, leaves_changes}
@@ -19,6 +20,40 @@ use Rattle.exsm_run.specs.Format.{IsFormatMoment, IsFormatted, WritesAlone}
 
 abbrev pub NoMagic : List ℕ → Type 0
 NoMagic d = HasMagic d → ⊥
+
+-- ---- which status is answered
+
+-- the disk has room for the volume, or it hasn't
+pub has_room : {have need size bytes : ℕ} → have ≡ size → need ≡ bytes → need ≤ have → bytes ≤ size
+has_room have need le = omega (arith, have, need, le)
+
+pub lacks_room : {have need size bytes : ℕ} → have ≡ size → need ≡ bytes → have < need → size < bytes
+lacks_room have need lt = omega (arith, have, need, lt)
+
+pub no_less : {size bytes : ℕ} → bytes ≤ size → size < bytes → ⊥
+no_less le lt = omega (arith, le, lt)
+
+-- what was read of the disk begins with the magic where that does
+pub magic_read : (first d : List ℕ) → first ≡ part d 0 8 → (take 8 first ≡ magic) ↔ HasMagic d
+unfolding part
+magic_read first d is =
+    let same : take 8 first ≡ part d 0 8 = ap (take 8) is ∙ take-take 8 8 (drop 0 d) (omega arith) in
+    ((λ has. sym same ∙ has), (λ has. same ∙ has))
+
+pub no_magic : {read : Bool} (first d : List ℕ) → (IsTrue read ↔ (take 8 first ≡ magic)) → read ≡ false → ((take 8 first ≡ magic) ↔ HasMagic d) → HasMagic d → ⊥
+no_magic first d tells is told has = true≢false (sym (tells.1 (told.1 has)) ∙ is)
+
+-- statuses that differ
+pub small_no_volume : {have need : ℕ} → TooSmall have need ≡ AlreadyVolume → ⊥
+small_no_volume is = cc
+
+pub memory_no_disk : Memory ≡ DiskFault → ⊥
+memory_no_disk is = cc
+
+pub output_no_done : OutputFault ≡ Done → ⊥
+output_no_done is = cc
+
+-- ---- what is written
 
 -- a write behind the magic, in a place that `format` writes
 pub behind_write : {a b : Outside} (g : Geometry) (at n : ℕ) → 8 ≤ at → ((i : ℕ) → InRange at n i → IsMade g i) → DiskOnly a b → (IsTrue a.honest → Tears at n a b)
@@ -37,10 +72,14 @@ module _ (g : Geometry) where
   pub in_catalog : (n i : ℕ) → n ≡ g.page_size → InRange (257 * g.page_size) n i → IsMade g i
   in_catalog n i size inside = inr (inr (inside.0, omega (arith, inside.1, size)))
 
+-- what is prepared is made
+pub prepared_within : {a b : Outside} (g : Geometry) → ChangesWithin (IsPreparedAt g) a b → ChangesWithin (IsMade g) a b
+prepared_within g changes = changes_wider (IsPreparedAt g) (IsMade g) changes (λ i (place : IsPreparedAt g i). place.1)
+
 -- what was prepared, and the magic over it
 pub made_within : {a b c : Outside} (g : Geometry) → ChangesWithin (IsPreparedAt g) a b → ChangesWithin (InRange 0 8) b c → ChangesWithin (IsMade g) a c
 made_within g one two =
-    changes_trans (changes_wider (IsPreparedAt g) (IsMade g) one (λ i (place : IsPreparedAt g i). place.1))
+    changes_trans (prepared_within g one)
     (changes_wider (InRange 0 8) (IsMade g) two (λ i (inside : InRange 0 8 i). in_superblock g 0 8 i (omega (arith, least_page g)) inside))
 
 -- nothing was written yet
@@ -180,3 +219,17 @@ module _ (g : Geometry) (was : List ℕ) where
       let told : IsSome b.sent = so_far.goes.sent_told ∙ ap is_some sent in
       along_sink (IsFormatMoment g was) so_far only told
       (λ s d here between. let is : IsEmptyVolume g d = subst (IsEmptyVolume g) (sym (made.rests.settled d here)) made.empty in record { unmade_or_empty = inr is; acknowledged = λ differ. is })
+
+-- ---- what is sent
+
+-- The text that was sent, in whole or in part, is the line.
+pub sent_as : (c : Outside) (was text line : List ℕ) → text ≡ line → c.sent ≡ Some (was ++ text) → c.sent ≡ Some (was ++ line)
+sent_as c was text line same sent = subst (λ (l : List ℕ). c.sent ≡ Some (was ++ l)) same sent
+
+pub cut_as : (c : Outside) (was text line : List ℕ) → text ≡ line → (n : ℕ) × (n < length text) × (c.sent ≡ Some (was ++ take n text))
+    → (n : ℕ) × (n < length line) × (c.sent ≡ Some (was ++ take n line))
+cut_as c was text line same sent = subst (λ (l : List ℕ). (n : ℕ) × (n < length l) × (c.sent ≡ Some (was ++ take n l))) same sent
+
+-- what rose since a later time rose since an earlier one
+pub rose_since : (before mid now : ℕ) → before ≤ mid → Rose mid now → Rose before now
+rose_since before mid now le rose = omega (arith, le, rose)

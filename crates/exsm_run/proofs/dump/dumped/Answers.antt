@@ -1,3 +1,4 @@
+use Rattle.disk_model.specs.Runs.{goes_trans}
 use Rattle.std.proofs.Common.{sym, subst}
 use Rattle.command_line.specs.declared.status.Status.{Status}
 use Rattle.exsm_run.specs.Dump.{DumpPromise}
@@ -31,3 +32,9 @@ returns-clause-promise g c =
       stood = c.in-Ok.ensures.stood;
       reads = c.send_dump.ensures.only;
     }) c.in-Err-send_dump.ensures.sent c.in-Err-send_dump.ensures.cause c.in-Err-send_dump.ensures.sound)
+
+pub returns-in-Ok-send_dump-clause-goes : goal.returns-in-Ok-send_dump-clause-goes
+returns-in-Ok-send_dump-clause-goes g c = goes_trans c.opened.ensures.only.goes c.send_dump.ensures.only.goes
+
+pub returns-clause-goes : goal.returns-clause-goes
+returns-clause-goes g c = goes_trans c.opened.ensures.only.goes c.send_dump.ensures.only.goes

@@ -9,7 +9,7 @@ use Rattle.disk_model.specs.Calls.{Wrote}
 use Rattle.disk_model.specs.Runs.{honest_on, leaves_trans}
 use Rattle.exsm_run.specs.EmptyVolume.{IsUnmadeOrEmpty}
 use Rattle.exsm_run.specs.Format.{IsFormatted}
-use Rattle.exsm_run.proofs.Making.{leaves_unmade, leaves_made, made_of, made_within}
+use Rattle.exsm_run.proofs.Making.{leaves_unmade, leaves_made, made_of, made_within, prepared_within}
 use Rattle.exsm_run.proofs.format.lay_out.Goals as goal
 
 pub returns-in_err-prepare-clause-any_moment : goal.returns-in_err-prepare-clause-any_moment
@@ -22,7 +22,8 @@ returns-clause-changes g c = made_within c.args.geometry.now c.prepare.ensures.c
     (subst (λ (n : ℕ). ChangesWithin (InRange 0 n) (g.D.World.outside c.prepare.new.disk) (g.D.World.outside c.write_settled.new.disk)) (ap length c.magic_of.ensures) c.write_settled.ensures.changes)
 
 pub returns-clause-formatted : goal.returns-clause-formatted
-returns-clause-formatted g c = on_ok_both c.write_settled.result _ _ _ made (subst (λ (bytes : List ℕ). OnOk c.write_settled.result (Wrote 0 bytes (g.D.World.outside c.prepare.new.disk) (g.D.World.outside c.write_settled.new.disk))) c.magic_of.ensures c.write_settled.ensures.written) c.write_settled.ensures.settled
+returns-clause-formatted g c =
+    on_ok_both c.write_settled.result _ _ _ made (subst (λ (bytes : List ℕ). OnOk c.write_settled.result (Wrote 0 bytes (g.D.World.outside c.prepare.new.disk) (g.D.World.outside c.write_settled.new.disk))) c.magic_of.ensures c.write_settled.ensures.written) c.write_settled.ensures.settled
   where
     made : Wrote 0 magic (g.D.World.outside c.prepare.new.disk) (g.D.World.outside c.write_settled.new.disk)
         → (IsTrue (g.D.World.outside c.prepare.new.disk).honest → (d : List ℕ) → (g.D.World.outside c.write_settled.new.disk).disk ≡ Some d → Only d (g.D.World.outside c.write_settled.new.disk).images)
@@ -48,3 +49,6 @@ returns-clause-any_moment g c d rests unmade =
     let two = leaves_made geo (g.D.World.is_world c.prepare.new.disk) before.0 here (c.in_ok-prepare.ensures.settled rests.honest before.0 before.1) before.2
     (subst (λ (n : ℕ). ChangesWithin (InRange 0 n) (g.D.World.outside c.prepare.new.disk) (g.D.World.outside c.write_settled.new.disk)) (ap length c.magic_of.ensures) c.write_settled.ensures.changes) in
     leaves_trans (IsUnmadeOrEmpty geo) one two
+
+pub returns-in_err-prepare-clause-changes : goal.returns-in_err-prepare-clause-changes
+returns-in_err-prepare-clause-changes g c = prepared_within c.args.geometry.now c.prepare.ensures.changes

@@ -1,8 +1,8 @@
 use Rattle.std.proofs.Common.{◌≡◌, ◌≤◌, ◌*◌, ◌∙◌, ℕ, List, Some, ap, length, arith, rules}
 use Rattle.ex_base.specs.Sizes.{least_page, least_volume}
 use Rattle.ex_base.specs.Superblock.{format_now, length-super_page, length-super_rest}
-use Rattle.exsm_run.proofs.Making.{behind_write, in_superblock, in_gate, in_catalog, prepared, rest_of}
 use Rattle.exsm_run.specs.EmptyVolume.{IsPrepared, IsPreparedAt}
+use Rattle.exsm_run.proofs.Making.{behind_write, in_superblock, in_gate, in_catalog, prepared, rest_of}
 use Rattle.disk_model.specs.Changes.{ChangesWithin, changes_trans, changes_nothing}
 use Rattle.std.proofs.lemmas.Result.{on_ok_weaker}
 use Rattle.exsm_run.proofs.format.prepare.Given as given
@@ -45,7 +45,8 @@ pub returns-in_err-write-clause-changes : goal.returns-in_err-write-clause-chang
 returns-in_err-write-clause-changes g c = first g (goal.at.returns-in_err-write-clause-changes g c).After-write
 
 pub returns-in_err-write-2-clause-changes : goal.returns-in_err-write-2-clause-changes
-returns-in_err-write-2-clause-changes g c = changes_trans (first g (goal.at.returns-in_err-write-2-clause-changes g c).After-write) (second g (goal.at.returns-in_err-write-2-clause-changes g c).After-write-2)
+returns-in_err-write-2-clause-changes g c =
+    changes_trans (first g (goal.at.returns-in_err-write-2-clause-changes g c).After-write) (second g (goal.at.returns-in_err-write-2-clause-changes g c).After-write-2)
 
 pub returns-in_err-write-3-clause-changes : goal.returns-in_err-write-3-clause-changes
 returns-in_err-write-3-clause-changes g c =

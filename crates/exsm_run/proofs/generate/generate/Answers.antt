@@ -1,3 +1,4 @@
+use Rattle.disk_model.specs.Runs.{goes_trans}
 use Rattle.std.proofs.Common.{◌∙◌, ⊎_elim, [], refl, sym, ap, subst, arith, Err}
 use Rattle.ex_base.proofs.Results.{if_no_error}
 use Rattle.talks.specs.Stops.{IsOpeningStop}
@@ -40,3 +41,9 @@ returns-clause-promise g c =
     gen_sent _ c.args.seed c.args.count c.make-talk.result c.run_talk.new.talk c.as_bytes.result.now (g.H.World.is_world c.run_talk.new.host) promise.goes c.make-talk.ensures.lines c.make-talk.ensures.few c.make-talk.ensures.none
     (λ is replies tally. c.as_bytes.ensures.value ∙ c.in-Ok.ensures replies tally) promise.headline promise.over promise.on
     (whole_line c.as_bytes.result.now c.send_all.ensures.only (if_no_error c.send_all.result (sym c.is_err.ensures.value ∙ c.if-is_err.false) c.send_all.ensures.sent))
+
+pub returns-then-is_err-clause-goes : goal.returns-then-is_err-clause-goes
+returns-then-is_err-clause-goes g c = goes_trans c.run_talk.ensures.goes c.send_all.ensures.only.goes
+
+pub returns-clause-goes : goal.returns-clause-goes
+returns-clause-goes g c = goes_trans c.run_talk.ensures.goes c.send_all.ensures.only.goes

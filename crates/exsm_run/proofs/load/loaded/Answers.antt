@@ -1,3 +1,4 @@
+use Rattle.disk_model.specs.Runs.{goes_trans}
 use Rattle.std.proofs.Common.{◌∙◌, List, ℕ, Err, sym, ap, subst}
 use Rattle.ex_base.proofs.Results.{if_no_error}
 use Rattle.runs.proofs.Sending.{at_err}
@@ -85,3 +86,21 @@ returns-clause-promise g c =
           (whole_line c.as_bytes.result.now c.send_all.ensures.only (if_no_error c.send_all.result (sym c.is_err.ensures.value ∙ c.if-is_err.false) c.send_all.ensures.sent));
       made = λ is. cc;
     })
+
+pub returns-in-Err-is_empty-clause-goes : goal.returns-in-Err-is_empty-clause-goes
+returns-in-Err-is_empty-clause-goes g c = goes_trans c.opened.ensures.only.goes c.is_empty.ensures.only.nothing.only.goes
+
+pub returns-then-not-empty-clause-goes : goal.returns-then-not-empty-clause-goes
+returns-then-not-empty-clause-goes g c = goes_trans c.opened.ensures.only.goes c.is_empty.ensures.only.nothing.only.goes
+
+pub returns-in-Err-load_stream-clause-goes : goal.returns-in-Err-load_stream-clause-goes
+returns-in-Err-load_stream-clause-goes g c =
+    goes_trans (goes_trans c.opened.ensures.only.goes c.is_empty.ensures.only.nothing.only.goes) c.load_stream.ensures.only.goes
+
+pub returns-then-is_err-clause-goes : goal.returns-then-is_err-clause-goes
+returns-then-is_err-clause-goes g c =
+    goes_trans (goes_trans (goes_trans c.opened.ensures.only.goes c.is_empty.ensures.only.nothing.only.goes) c.load_stream.ensures.only.goes) c.send_all.ensures.only.goes
+
+pub returns-clause-goes : goal.returns-clause-goes
+returns-clause-goes g c =
+    goes_trans (goes_trans (goes_trans c.opened.ensures.only.goes c.is_empty.ensures.only.nothing.only.goes) c.load_stream.ensures.only.goes) c.send_all.ensures.only.goes

@@ -82,3 +82,6 @@ pub returns-then-is_err-clause-output_fault : goal.returns-then-is_err-clause-ou
 returns-then-is_err-clause-output_fault g c is =
     let rose = at_err c.send_all.result _ (sym c.is_err.ensures.value ∙ c.if-is_err.true) c.send_all.ensures.cause in
     omega (arith, rose, c.opened.ensures.only.write_faults, c.pack.ensures.only.write_faults)
+
+pub returns-in-Err-pack-clause-goes : goal.returns-in-Err-pack-clause-goes
+returns-in-Err-pack-clause-goes g c = goes_trans c.opened.ensures.only.goes c.pack.ensures.only.goes

@@ -24,3 +24,9 @@ returns-clause-room g c =
       ap (λ (s : SessionState). volume_bytes s.geometry) c.summarize.ensures.frames.same,
       c.summarize.ensures.only.nothing.only.goes.size,
     )
+
+pub returns-clause-sums : goal.returns-clause-sums
+returns-clause-sums g c = λ before same shows. c.summarize.ensures.sums before (same ∙ sym c.self.view_is) shows
+
+pub returns-clause-shows : goal.returns-clause-shows
+returns-clause-shows g c = λ before same shows. c.summarize.ensures.shows before (same ∙ sym c.self.view_is) shows

@@ -46,3 +46,12 @@ returns-clause-kept g c =
       goes_down = promise.goes_down;
       stays_up = promise.stays_up;
     })
+
+pub returns-clause-stepped : goal.returns-clause-stepped
+returns-clause-stepped g c = λ before same shows. c.step.ensures.stepped before (same ∙ sym c.self.view_is) shows
+
+pub returns-clause-any_moment : goal.returns-clause-any_moment
+returns-clause-any_moment g c = λ before same shows. c.step.ensures.any_moment before (same ∙ sym c.self.view_is) shows
+
+pub returns-clause-unwritten : goal.returns-clause-unwritten
+returns-clause-unwritten g c = λ is memory. (c.step.ensures.unwritten is memory).0
