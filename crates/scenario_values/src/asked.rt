@@ -32,9 +32,9 @@ pub fn words_of(alloc: Global, line: &str) -> Result<Vec<String>, AllocError> {
     Ok(words)
 }
 
-// Adds a line, in which `%` is the number of a round.
-fn add_line(text: &mut String, line: &str, round: u64) -> Result<(), AllocError> {
-    for letter in line.chars() {
+// Adds letters, among which `%` is the number of a round.
+fn add_letters(text: &mut String, letters: &str, round: u64) -> Result<(), AllocError> {
+    for letter in letters.chars() {
         if letter == ROUND {
             write!(text, "{round}")?;
         } else {
@@ -44,21 +44,23 @@ fn add_line(text: &mut String, line: &str, round: u64) -> Result<(), AllocError>
     Ok(())
 }
 
+// Adds a line, which ends with a line feed, but not where a `~` is behind it.
+fn add_line(text: &mut String, line: &str, round: u64) -> Result<(), AllocError> {
+    if let Some(unended) = line.strip_suffix(UNENDED) {
+        return add_letters(text, unended, round);
+    }
+    if line != EMPTY {
+        add_letters(text, line, round)?;
+    }
+    Ok(text.push('\n')?)
+}
+
 /// The bytes of lines with ` / ` between them: each ends with a line feed, but a last one with a `~`. `''` is an empty line, and `%` the number of a round.
 pub(crate) fn lines_of(alloc: Global, lines: &str, round: u64) -> Result<Vec<u8>, AllocError> {
     let mut text = String::new(alloc);
-    if lines.is_empty() {
-        return Ok(text.into_bytes());
-    }
-    for line in lines.split(BETWEEN) {
-        match line.strip_suffix(UNENDED) {
-            Some(unended) => add_line(&mut text, unended, round)?,
-            None => {
-                if line != EMPTY {
-                    add_line(&mut text, line, round)?;
-                }
-                text.push('\n')?;
-            }
+    if !lines.is_empty() {
+        for line in lines.split(BETWEEN) {
+            add_line(&mut text, line, round)?;
         }
     }
     Ok(text.into_bytes())

@@ -69,6 +69,15 @@ fn decoded(alloc: Global, digits: &str) -> Result<Vec<u8>, Trouble<'_>> {
     }
 }
 
+// These bytes, so many times.
+fn repeated(alloc: Global, bytes: &[u8], times: u64) -> Result<Vec<u8>, AllocError> {
+    let mut all = Vec::new(alloc);
+    for _ in 0..times {
+        all.extend_from_slice(bytes)?;
+    }
+    Ok(all)
+}
+
 // Writes bytes over those from a place on, as far as there are some.
 fn write_over(under: &mut [u8], at: usize, bytes: &[u8]) {
     for (place, byte) in under.iter_mut().skip(at).zip(bytes) {
@@ -106,10 +115,12 @@ impl Values {
 
     // Where the value of that name stands, or behind the last one.
     fn index_of(&self, name: &str) -> usize {
-        self.values
-            .iter()
-            .position(|value| value.name.as_str() == name)
-            .unwrap_or(self.values.len())
+        for (index, value) in self.values.iter().enumerate() {
+            if value.name.as_str() == name {
+                return index;
+            }
+        }
+        self.values.len()
     }
 
     /// The value of that name.
@@ -200,10 +211,7 @@ impl Values {
         digits: &'a str,
     ) -> Result<(), Trouble<'a>> {
         let bytes = decoded(self.alloc, digits)?;
-        let mut all = Vec::new(self.alloc);
-        for _ in 0..times {
-            all.extend_from_slice(&bytes)?;
-        }
+        let all = repeated(self.alloc, &bytes, times)?;
         Ok(self.add(name, &all)?)
     }
 
@@ -234,13 +242,15 @@ impl Values {
 
     /// The number that a word says: digits, a name, or a name and a number that is added to it or taken from it.
     pub fn number<'a>(&self, word: &'a str) -> Result<u64, Wrong<'a>> {
-        if let Some((name, more)) = word.split_once('+') {
-            return Ok(self.plain(name)?.saturating_add(self.plain(more)?));
-        }
-        match word.split_once('-') {
-            Some((name, less)) => Ok(self.plain(name)?.saturating_sub(self.plain(less)?)),
-            None => self.plain(word),
-        }
+        let (name, more, less) = match word.split_once('+') {
+            Some((name, more)) => (name, more, "0"),
+            None => match word.split_once('-') {
+                Some((name, less)) => (name, "0", less),
+                None => (word, "0", "0"),
+            },
+        };
+        let number = self.plain(name)?.saturating_add(self.plain(more)?);
+        Ok(number.saturating_sub(self.plain(less)?))
     }
 
     /// The number that an option says, where it is given.
@@ -251,15 +261,20 @@ impl Values {
         }
     }
 
+    // Gives no command line yet a name.
+    fn begin_look(&mut self, name: &str) -> Result<(), AllocError> {
+        let name = String::from_str(self.alloc, name)?;
+        let asked = Vec::new(self.alloc);
+        Ok(self.looks.push(Look { name, asked })?)
+    }
+
     /// Adds a command line to those of a name.
     pub fn add_look(&mut self, name: &str, command: Command<'_>) -> Result<(), AllocError> {
-        let asked = asked_of(self.alloc, command)?;
         let index = self.look_index(name);
         if index >= self.looks.len() {
-            let name = String::from_str(self.alloc, name)?;
-            let asked = Vec::new(self.alloc);
-            self.looks.push(Look { name, asked })?;
+            self.begin_look(name)?;
         }
+        let asked = asked_of(self.alloc, command)?;
         match self.looks.get_mut(index) {
             Some(look) => Ok(look.asked.push(asked)?),
             None => Ok(()),
@@ -267,10 +282,12 @@ impl Values {
     }
 
     fn look_index(&self, name: &str) -> usize {
-        self.looks
-            .iter()
-            .position(|look| look.name.as_str() == name)
-            .unwrap_or(self.looks.len())
+        for (index, look) in self.looks.iter().enumerate() {
+            if look.name.as_str() == name {
+                return index;
+            }
+        }
+        self.looks.len()
     }
 
     /// The command lines of that name; none where none is given.

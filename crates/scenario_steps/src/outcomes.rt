@@ -1,13 +1,20 @@
 //! What came of a run, as it is told.
+use command_line::Status;
 use ex_base::{Area, Seen};
-use exsm_run::Status;
-use scenario_values::NOTHING;
+use memory_host::MemoryHost;
+use scenario_values::{NOTHING, Telling, push_sent};
 use sha2::{Digest, Sha256};
 use std::alloc::{AllocError, Global};
 use std::fmt::Write;
 
 /// What a volume is told by that keeps what was done until then.
 const KEPT: [&[u8]; 3] = [b"ok commit ", b"ok format ", b"ok load "];
+
+// Adds a number behind its word.
+fn push_number(text: &mut String, word: &str, number: u64) -> Result<(), AllocError> {
+    write!(text, " {word} {number}")?;
+    Ok(())
+}
 
 // Adds what of a page was wanted or found.
 fn push_seen(text: &mut String, word: &str, seen: Seen) -> Result<(), AllocError> {
@@ -16,34 +23,52 @@ fn push_seen(text: &mut String, word: &str, seen: Seen) -> Result<(), AllocError
     Ok(())
 }
 
-/// A status: its code, its name, and what it says.
-pub(crate) fn status_text(alloc: Global, status: Status) -> Result<String, AllocError> {
-    let code = status.code();
-    let mut text = format!(in alloc; "{code} {status}")?;
+// Adds what was needed, and what was free.
+fn push_need(text: &mut String, need: u64, free: u64) -> Result<(), AllocError> {
+    push_number(text, "need", need)?;
+    push_number(text, "free", free)
+}
+
+// Adds what a status says.
+fn push_said(text: &mut String, status: Status) -> Result<(), AllocError> {
     match status {
         Status::Damaged { page, want, got } => {
-            let page = page.0;
-            write!(text, " page {page}")?;
-            push_seen(&mut text, "want", want)?;
-            push_seen(&mut text, "got", got)?;
+            push_number(text, "page", u64::from(page.0))?;
+            push_seen(text, "want", want)?;
+            push_seen(text, "got", got)
         }
-        Status::TooSmall { have, need } => write!(text, " have {have} need {need}")?,
-        Status::ScriptLong { max } => write!(text, " max {max}")?,
+        Status::TooSmall { have, need } => {
+            push_number(text, "have", have)?;
+            push_number(text, "need", need)
+        }
+        Status::ScriptLong { max } => push_number(text, "max", max),
         Status::Misfit {
             field,
             dump,
             volume,
-        } => write!(text, " field {field} dump {dump} volume {volume}")?,
+        } => {
+            push_number(text, "field", u64::from(field))?;
+            push_number(text, "dump", u64::from(dump))?;
+            push_number(text, "volume", u64::from(volume))
+        }
         Status::NoRoom { area, need, free } => {
             let units = match area {
-                Area::Page => "pages",
-                Area::Segment => "segs",
+                Area::Page => " pages",
+                Area::Segment => " segs",
             };
-            write!(text, " {units} need {need} free {free}")?
+            text.push_str(units)?;
+            push_need(text, need, free)
         }
-        Status::NoPages { need, free } => write!(text, " need {need} free {free}")?,
-        _ => {}
+        Status::NoPages { need, free } => push_need(text, need, free),
+        _ => Ok(()),
     }
+}
+
+/// A status: its code, its name, and what it says.
+pub(crate) fn status_text(alloc: Global, status: Status) -> Result<String, AllocError> {
+    let code = status.code();
+    let mut text = format!(in alloc; "{code} {status}")?;
+    push_said(&mut text, status)?;
     Ok(text)
 }
 
@@ -60,6 +85,29 @@ pub(crate) fn push_status(
     out.extend_from_slice(status_text(alloc, status)?.as_bytes())
 }
 
+/// How a run ended at that call, whether what it sent is a front of what the whole run sent, and whether it made no call more.
+pub(crate) fn outcome_of(
+    alloc: Global,
+    whole: &MemoryHost,
+    status: Status,
+    host: &MemoryHost,
+    call: u64,
+) -> Result<Vec<u8>, AllocError> {
+    let mut text = Vec::new(alloc);
+    let sent = host.sent_bytes();
+    if whole.sent_bytes().starts_with(sent) {
+        text.extend_from_slice(b"a front; ")?;
+    } else {
+        push_sent(alloc, &mut text, sent, Telling::ALL)?;
+        text.extend_from_slice(b"; ")?;
+    }
+    if host.calls() > call {
+        text.extend_from_slice(b"goes on; ")?;
+    }
+    text.extend_from_slice(status_text(alloc, status)?.as_bytes())?;
+    Ok(text)
+}
+
 // Whether a reply tells that, also behind the number of a client.
 fn is_kept(line: &[u8]) -> bool {
     let reply = match line {
@@ -67,7 +115,12 @@ fn is_kept(line: &[u8]) -> bool {
         [b'0'..=b'9', b'0'..=b'9', b' ', reply @ ..] => reply,
         _ => line,
     };
-    KEPT.iter().any(|front| reply.starts_with(front))
+    for front in &KEPT {
+        if reply.starts_with(front) {
+            return true;
+        }
+    }
+    false
 }
 
 /// The last whole line that was sent and says that something is kept for good.
