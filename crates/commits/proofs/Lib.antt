@@ -8,4 +8,5 @@ pub mod LoggedPages
 pub mod OneRecord
 pub mod Adding
 pub mod RoomInLog
+pub mod LogBytes
 pub mod Composed

@@ -2,12 +2,14 @@
 ghost use Rattle.std.specs.Prelude.{◌≡◌, ◌≤◌, ◌<◌, ℕ, List, [], All, Some, IsTrue, IsOk, OnOk, OnErr};
 ghost use Rattle.ex_base.specs.Sizes.{volume_bytes};
 ghost use Rattle.disk_model.specs.Outside.{DiskOnly, Leaves, Rose};
+ghost use Rattle.disk_model.specs.Changes.{ChangesWithin};
 ghost use Rattle.buffer_groups.specs.Frames.{Frames, Lends};
 ghost use Rattle.buffer_groups.specs.Groups.{SameKinds};
 ghost use Rattle.meta_pages.specs.Homes.{homes_forgotten};
 ghost use Rattle.volume_model.specs.Volume.{Decoded};
 ghost use Rattle.volume_model.specs.Committed.{Committed, Checkpointed, StandsForVolume};
 ghost use Rattle.commits.specs.Room.{AreBehindLog, IsLogged};
+ghost use Rattle.commits.specs.Written.{InLogOrHomes};
 
 use buffer_groups::Groups;
 use disk_model::{Disk, Failed};
@@ -28,6 +30,10 @@ pub fn checkpoint<D: Disk>(
     ensures only { DiskOnly (D.outside disk.old) (D.outside disk.new) }
     ensures cause { OnErr result (Rose (D.outside disk.old).disk_faults
         (D.outside disk.new).disk_faults) }
+
+    // Whatever is answered, it writes in the log and at the homes of the committed images alone.
+    ensures writes { ChangesWithin (InLogOrHomes meta.old.geometry.page_size meta.old.committed)
+        (D.outside disk.old) (D.outside disk.new) }
 
     // Where no record counts nothing happens; else after Ok none counts.
     ensures no_call { log.old.count ≡ 0 → disk.new ≡ disk.old }

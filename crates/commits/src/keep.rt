@@ -14,6 +14,7 @@ ghost use Rattle.volume_model.specs.Volume.{Volume, Decoded};
 ghost use Rattle.volume_model.specs.Committed.{Committed, CommittedAs, MayCommit, IsOverlayOf, StandsForEither, StandsForVolume, IsRecordOf};
 ghost use Rattle.commits.specs.Room.{AreBehindLog, BeforeCatalog, IsLogged, HasCatalog};
 ghost use Rattle.commits.specs.Steps.{HasRoom};
+ghost use Rattle.commits.specs.Written.{InLog, InLogOrHomes};
 
 use crate::build::{record_of, record_of_images};
 use crate::home::checkpoint;
@@ -56,6 +57,10 @@ pub fn commit<D: Disk>(
     ensures only { DiskOnly (D.outside disk.old) (D.outside disk.new) }
     ensures disk { result ≡ Err CommitFault.Disk
         → Rose (D.outside disk.old).disk_faults (D.outside disk.new).disk_faults }
+
+    // Whatever is answered, it writes in the log and at the homes of the images that were committed before, and nowhere else.
+    ensures writes { ChangesWithin (InLogOrHomes meta.old.geometry.page_size meta.old.committed)
+        (D.outside disk.old) (D.outside disk.new) }
 
     // Without memory nothing was done.
     ensures memory { result ≡ Err CommitFault.Memory → disk.new ≡ disk.old }
@@ -125,6 +130,8 @@ fn record_with_room<D: Disk>(
     ensures only { DiskOnly (D.outside disk.old) (D.outside disk.new) }
     ensures disk { result ≡ Err CommitFault.Disk
         → Rose (D.outside disk.old).disk_faults (D.outside disk.new).disk_faults }
+    ensures writes { ChangesWithin (InLogOrHomes meta.old.geometry.page_size meta.old.committed)
+        (D.outside disk.old) (D.outside disk.new) }
     ensures memory { result ≡ Err CommitFault.Memory → disk.new ≡ disk.old }
     ensures memory_log { result ≡ Err CommitFault.Memory → log.new ≡ log.old }
     ensures memory_meta { result ≡ Err CommitFault.Memory → meta.new ≡ meta.old }
@@ -186,6 +193,8 @@ fn add_record<D: Disk>(
     requires rule { IsRecordOf (committed_image meta.old) item.now.txn item.now.notes
         meta.old.working item.now }
     ensures changes { ChangesWithin (BeforeCatalog meta.old.geometry.page_size) (D.outside disk.old)
+        (D.outside disk.new) }
+    ensures writes { ChangesWithin (InLog meta.old.geometry.page_size) (D.outside disk.old)
         (D.outside disk.new) }
     ensures cause { OnErr result (Rose (D.outside disk.old).disk_faults
         (D.outside disk.new).disk_faults) }

@@ -18,7 +18,7 @@ use Rattle.session_views.specs.declared.Stop.TheVariants as stop
 use Rattle.session_views.specs.View.{View, ShowsNow}
 use Rattle.engines.specs.Keeping.{Conduct, conduct}
 use Rattle.session_core.specs.Catalogs.{IsDamaged, catalog_bytes}
-use Rattle.session_core.specs.Commits.{JustReached, LogsCommit, committed_reach, working_reach}
+use Rattle.session_core.specs.Commits.{JustReached, LogsCommit, WritesHome, committed_reach, working_reach}
 use Rattle.session_core.specs.Counts.{free_in}
 use Rattle.session_core.specs.Damage.{IsSessionDamage}
 use Rattle.session_core.specs.Meant.{meant}
@@ -26,9 +26,12 @@ use Rattle.session_core.specs.Sessions.{FreesGivenBack, FreesTaken, SessionState
 use Rattle.session_core.specs.Steps.{IsQuiet, IsRefused, OnlyFrames}
 use Rattle.session_core.specs.Updates.{WritesUnused}
 use Rattle.transactions.specs.Commands.{IsCopy, IsOfCatalog, ReadsAlone, names_version}
+use Rattle.transactions.specs.Scanning.{ReadsThrough}
 
 -- Where a commit, a checkpoint, an abort or a close was asked for.
 pub record EndKeeps (old new : SessionState) (a b : Outside) (r : Request) (result : Result Reply Stop) : Type 0 where
+  -- A commit and a checkpoint write in the log alone, and at the homes of the pages whose images were committed before.
+  pub writes : ¬ IsQuiet r → WritesHome a b old
   -- A checkpoint takes no memory, and after an accepted one no record counts.
   pub takes_none : r ≡ Checkpoint → result ≡ Err stop.Memory → ⊥
   pub none_counts : r ≡ Checkpoint → result ≡ Ok reply.Checkpoint → new.log.count ≡ 0
@@ -75,6 +78,8 @@ pub record StepKeeps (old new : SessionState) (a b : Outside) (r : Request) (res
       → SaysLog old.geometry records before.disk → (later : List ℕ) × (b.disk ≡ Some later) × SaysLog old.geometry records later
   -- A copy of a version shares its tree: each unit that comes into use is a logged page.
   pub shares : IsCopy r → OnOk result (TakesLogged old.units new.units new.pages)
+  -- A scan that is opened reads through the group that its line names, and what it gives next fills no other group.
+  pub through : ReadsThrough old new.scans new.groups r result
   pub ends : EndKeeps old new a b r result
   pub damage : DamageKept old a b r result
   -- After a fault every step says that the session is down, and calls nothing.

@@ -10,4 +10,5 @@ pub mod PortShows
 pub mod FileRecords
 pub mod FilesTested
 pub mod LastRecord
+pub mod LogOpened
 pub mod Opened

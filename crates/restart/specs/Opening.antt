@@ -1,14 +1,17 @@
 -- What an opening tests, and what it gives.
-use Rattle.std.specs.Prelude.{◌≡◌, ◌⊎◌, ℕ, Bool, List, [], ◌∷◌, Option, Some, None}
+use Rattle.std.specs.Prelude.{◌≡◌, ◌≤◌, ◌⊎◌, ◌*◌, ℕ, Bool, List, [], ◌∷◌, Option, Some, None, IsSome}
 use Rattle.ex_base.specs.declared.geometry.Geometry.{Geometry}
 use Rattle.buffer_groups.specs.Frames.{Frames}
 use Rattle.buffer_groups.specs.declared.Policy.TheVariants.{Lru}
+use Rattle.disk_model.specs.Changes.{InRange}
 use Rattle.disk_model.specs.Outside.{Outside}
 use Rattle.object_files.specs.Catalog.{Catalog, CatalogOf}
+use Rattle.op_log.specs.AfterLog.{logged}
 use Rattle.op_log.specs.State.{LogState}
 use Rattle.table_model.specs.declared.table.Table.{Table}
 use Rattle.volume_port.specs.declared.state.VolumeState.{VolumeState}
 use Rattle.volume_port.specs.State.{IsAtRest}
+use Rattle.commits.specs.Written.{InLog}
 use Rattle.restart.specs.Content.{IsReached}
 use Rattle.volume_model.specs.Homes.{home}
 use Rattle.volume_model.specs.Committed.{Committed, OverlayOf, SameAfterLog, with_records}
@@ -85,10 +88,29 @@ pub record StandsForSame (image other : List ℕ) : Type 0 where
   pub was : StandsFor image table
   pub stands : StandsFor other table
 
+-- The other one is the image, or stands for its table.
+abbrev pub StaysAs : List ℕ → List ℕ → Type 0
+StaysAs image other = (other ≡ image) ⊎ StandsForSame image other
+
 -- What a crash in an opening leaves: what one could leave before, or the volume as it reads, or what stands for its table.
 abbrev pub OpensAs : (List ℕ → Type 0) → List ℕ → List ℕ → Type 0
-OpensAs before image other = before other ⊎ ((other ≡ image) ⊎ StandsForSame image other)
+OpensAs before image other = before other ⊎ StaysAs image other
+
+-- The moments are parted: since some time between, a crash leaves the volume as it reads, or what stands for its table, and nothing of before any more.
+pub record PartsMoments (old new : Outside) (image : List ℕ) : Type 0 where
+  pub since : ℕ
+  pub from : old.clock ≤ since
+  pub up_to : since ≤ new.clock
+  pub each : (s d : List ℕ) → new.moments since s d → StaysAs image d
+  pub now : (d : List ℕ) → new.images d → StaysAs image d
 
 -- The disk holds the image, or what stands for its table.
 abbrev pub HoldsAs : List ℕ → Outside → Type 0
-HoldsAs image w = (other : List ℕ) × (w.disk ≡ Some other) × ((other ≡ image) ⊎ StandsForSame image other)
+HoldsAs image w = (other : List ℕ) × (w.disk ≡ Some other) × StaysAs image other
+
+-- ---- where it writes
+
+-- the log, and the homes of the pages of which its records have an image
+abbrev pub InLogOrLogged : Decoded → ℕ → Type 0
+InLogOrLogged d i =
+    InLog d.geometry.page_size i ⊎ ((page : ℕ) × IsSome (logged d.records page) × InRange (page * d.geometry.page_size) d.geometry.page_size i)

@@ -1,8 +1,9 @@
 //! A volume is opened.
-ghost use Rattle.std.specs.Prelude.{◌≡◌, ◌≤◌, ◌<◌, ℕ, List, [], length, Some, Err, IsTrue, IfOk};
+ghost use Rattle.std.specs.Prelude.{◌≡◌, ◌≢◌, ◌≤◌, ◌<◌, ℕ, List, [], length, Some, Err, IsTrue, IfOk};
 ghost use Rattle.std.specs.List.{AllByRecursion};
 ghost use Rattle.ex_base.specs.Area.{log_size};
 ghost use Rattle.ex_base.specs.Sizes.{volume_bytes};
+ghost use Rattle.disk_model.specs.Changes.{ChangesWithin};
 ghost use Rattle.disk_model.specs.Outside.{DiskOnly, ReadsOnly, Leaves, Only, Rose, WritesNothing};
 ghost use Rattle.table_model.specs.declared.table.Table.{Table};
 ghost use Rattle.op_log.specs.Decoding.{last_number};
@@ -11,10 +12,11 @@ ghost use Rattle.op_log.specs.AfterLog.{logged, AllApply};
 ghost use Rattle.meta_pages.specs.Overlays.{committed_image};
 ghost use Rattle.op_log.specs.Records.{IsLogRecord};
 ghost use Rattle.page_alloc.specs.UnitSet.{used_at, refs_at};
-ghost use Rattle.volume_model.specs.Parts.{SuperOf, FirstBad, StandsFor};
+ghost use Rattle.volume_model.specs.Parts.{Decodes, SuperOf, FirstBad, StandsFor};
+ghost use Rattle.volume_model.specs.Volume.{Decoded};
 ghost use Rattle.volume_port.specs.Logged.{is_held};
 ghost use Rattle.restart.specs.Content.{IsReached};
-ghost use Rattle.restart.specs.Opening.{AreFresh, AreOpened, HoldsAs, OpenedOn, OpensAs, ReadsAs, RestsAs};
+ghost use Rattle.restart.specs.Opening.{AreFresh, AreOpened, HoldsAs, InLogOrLogged, OpenedOn, OpensAs, PartsMoments, ReadsAs, RestsAs};
 
 use crate::catalog::{read_catalog, test_catalog};
 use crate::content::Reached;
@@ -63,11 +65,24 @@ pub fn open_volume<D: Disk>(alloc: Global, disk: &mut D) -> Result<VolumeState, 
     ensures left { (image : List ℕ) (part : Part) → (D.outside disk.old).disk ≡ Some image
         → FirstBad image part → WritesNothing (D.outside disk.old) (D.outside disk.new) }
 
+    // Where no record of its log counts nothing is written either. Else it writes in the log alone, and at the homes of the pages that the log has.
+    ensures clean { (image : List ℕ) (d : Decoded) → (D.outside disk.old).disk ≡ Some image
+        → Decodes image d → d.records ≡ []
+        → WritesNothing (D.outside disk.old) (D.outside disk.new) }
+    ensures writes { (image : List ℕ) (d : Decoded) → (D.outside disk.old).disk ≡ Some image
+        → Decodes image d
+        → ChangesWithin (InLogOrLogged d) (D.outside disk.old) (D.outside disk.new) }
+
     // A crash at any moment leaves what could be left before, or the volume as it reads, or what stands for the same table.
     ensures any_moment { (image : List ℕ) → IsTrue (D.outside disk.old).honest
         → (D.outside disk.old).disk ≡ Some image
         → Leaves (D.outside disk.old) (D.outside disk.new)
         (OpensAs (D.outside disk.old).images image) }
+
+    // Where the disk didn't fail, the moments are parted at the sync: what could be left before is not left any more from then on.
+    ensures parted { result ≢ Err OpenFault.Disk → (image : List ℕ)
+        → IsTrue (D.outside disk.old).honest → (D.outside disk.old).disk ≡ Some image
+        → PartsMoments (D.outside disk.old) (D.outside disk.new) image }
 
     // Whatever is answered, the disk holds what it held, or what stands for the same table.
     ensures holds { (image : List ℕ) → IsTrue (D.outside disk.old).honest

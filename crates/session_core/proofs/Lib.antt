@@ -34,6 +34,7 @@ mod Tracking
 pub mod Undisturbed
 mod Updating
 mod Writing
+pub mod WritingHome
 mod Tallies
 mod Changed
 mod Removed

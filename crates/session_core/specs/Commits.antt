@@ -1,7 +1,8 @@
--- What a commit leaves in the log and of the units, and what a session stops at where a transaction could not be committed.
+-- What a commit leaves in the log and of the units, where it and a checkpoint write, and what a session stops at where a transaction could not be committed.
 use Rattle.std.specs.Prelude.{◌≡◌, ◌⊎◌, ◌↔◌, ℕ, ◌+◌, true, Contains, List, [], ◌∷◌, ◌++◌, Some, map}
 use Rattle.std.specs.List.{flat_map}
 use Rattle.ex_base.specs.Area.{catalog_no}
+use Rattle.disk_model.specs.Changes.{ChangesWithin}
 use Rattle.disk_model.specs.Outside.{Outside}
 use Rattle.object_files.specs.Catalog.{CatalogOf}
 use Rattle.object_files.specs.Reads.{with_numbers}
@@ -19,6 +20,7 @@ use Rattle.volume_model.specs.Homes.{home}
 use Rattle.volume_model.specs.Shown.{working_units}
 use Rattle.volume_model.specs.Volume.{Decoded, Volume, reach_of, units_of}
 use Rattle.session_core.specs.Sessions.{SessionState}
+use Rattle.commits.specs.Written.{InLogOrHomes}
 use Rattle.commits.specs.declared.keep.CommitFault.{CommitFault}
 use Rattle.commits.specs.declared.keep.CommitFault.TheVariants as fault
 use Rattle.session_views.specs.declared.stop.Stop.{Stop}
@@ -27,6 +29,10 @@ use Rattle.session_views.specs.declared.stop.Stop.TheVariants as stop
 abbrev pub stop_of : CommitFault → Stop
 stop_of fault.Memory = stop.Memory
 stop_of fault.Disk = stop.Disk
+
+-- On the disk nothing changed but bytes of the log, and of the homes of the pages whose images were committed before.
+abbrev pub WritesHome : Outside → Outside → SessionState → Type 0
+WritesHome a b s = ChangesWithin (InLogOrHomes s.geometry.page_size s.meta.committed) a b
 
 -- The log ends with the record of the session's transaction, by the rule over the records before it: these are the old ones, or none, which comes
 -- only where the record over the old ones has no room behind them. The page of the catalog has the number of the commit.

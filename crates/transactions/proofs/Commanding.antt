@@ -1,5 +1,5 @@
 -- One step on any command.
-use Rattle.std.proofs.Common.{◌≡◌, ◌≢◌, ◌⊎◌, ℕ, List, Some, true, true≢false, Result, Ok, Err, sym, ap, subst, ◌∙◌}
+use Rattle.std.proofs.Common.{◌≡◌, ◌≢◌, ◌⊎◌, ℕ, List, Some, true, true≢false, Result, Ok, Err, refl, sym, ap, subst, ◌∙◌}
 use Rattle.std.specs.Prelude.{IfOk, IfErr}
 use Rattle.disk_model.specs.Outside.{Outside, IsWorld}
 use Rattle.session_views.specs.declared.stop.Stop.{Stop}
@@ -7,6 +7,7 @@ use Rattle.session_views.specs.declared.stop.Stop.TheVariants as stop
 use Rattle.session_views.specs.View.{View, ShowsNow, Stepped}
 use Rattle.table_model.specs.declared.reply.Reply.{Reply}
 use Rattle.table_model.specs.Requests.{Request}
+use Rattle.table_model.specs.Requests as request
 use Rattle.session_core.specs.Sessions.{SessionState, IsSession}
 use Rattle.transactions.specs.Commands.{Answers, IsOfCatalog, asks_objects, changes_objects}
 use Rattle.session_core.specs.Finding.{IfShown, IsOutside, LineStops}
@@ -96,6 +97,12 @@ of_scans {a} {b} {old} {new} r s result is world catalog line = subst (λ (t : R
 -- what asks more of the volume than its catalog
 pub asks_more : (a b : Outside) (old : SessionState) (r : Request) (result : Result Reply Stop) → asks_objects r ≡ true → IsOfCatalog r → IfErr result (Stops a b old)
 asks_more a b old r result asks none = absurd (true≢false (sym asks ∙ none.0))
+
+-- and what asks of objects, or changes them, is neither a commit nor a checkpoint
+pub quiet_asked : (r : Request) → asks_objects r ≡ true → IsQuiet r
+quiet_asked request.Commit asks = absurd (true≢false (sym asks))
+quiet_asked request.Checkpoint asks = absurd (true≢false (sym asks))
+quiet_asked r asks = refl
 
 -- and what stops for want of memory alone
 pub memory_alone : (a b : Outside) (old : SessionState) (result : Result Reply Stop) → IfErr result (λ why. why ≡ stop.Memory) → IfErr result (Stops a b old)

@@ -14,6 +14,7 @@ mod Listing
 mod Made
 mod Naming
 mod Opened
+mod QuietCommands
 mod Closed
 mod Refusing
 mod Relatives
@@ -26,4 +27,5 @@ mod Updated
 mod Vacancy
 mod Damage
 mod Summing
+mod Through
 mod OnlyOne

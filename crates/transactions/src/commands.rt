@@ -16,13 +16,14 @@ ghost use Rattle.session_views.specs.declared.stop.Stop.{Stop};
 ghost use Rattle.session_views.specs.View.{View, ShowsNow, Stepped, StandsDuring};
 ghost use Rattle.session_core.specs.Sessions.{FreesGivenBack, FreesTaken, IsSession, SessionState, TakesLogged};
 ghost use Rattle.session_core.specs.Catalogs.{IsDamaged, catalog_bytes};
-ghost use Rattle.session_core.specs.Commits.{JustReached, LogsCommit, committed_reach, working_reach};
+ghost use Rattle.session_core.specs.Commits.{JustReached, LogsCommit, WritesHome, committed_reach, working_reach};
 ghost use Rattle.session_core.specs.Counts.{free_in};
 ghost use Rattle.session_core.specs.Damage.{IsSessionDamage, TellsDamage};
 ghost use Rattle.session_core.specs.Meant.{meant};
 ghost use Rattle.session_core.specs.Steps.{IsRefused, OnlyFrames, IsQuiet};
 ghost use Rattle.session_core.specs.Updates.{WritesUnused};
 ghost use Rattle.transactions.specs.Commands.{Answers, IsCopy, IsOfCatalog, ReadsAlone, asks_objects, names_version};
+ghost use Rattle.transactions.specs.Scanning.{ReadsThrough};
 
 use crate::changes::{append, delete, insert, replace};
 use crate::copying::copy;
@@ -55,6 +56,8 @@ fn answer<H: Host>(
         (request_of command.now) result }
     ensures damage { IfErr result (TellsDamage (H.outside host.old) (H.outside host.new)
         session.old (names_version session.old (request_of command.now))) }
+    ensures writes { ¬ IsQuiet (request_of command.now) → WritesHome (H.outside host.old)
+        (H.outside host.new) session.old }
     ensures none_counts { request_of command.now ≡ request.Checkpoint
         → result ≡ Ok Reply.Checkpoint → session.new.log.count ≡ 0 }
     ensures logs { request_of command.now ≡ request.Commit → (before : View SessionState)
@@ -87,6 +90,8 @@ fn answer<H: Host>(
         → host.new ≡ host.old) }
     ensures shares { IsCopy (request_of command.now) → OnOk result
         (TakesLogged session.old.units session.new.units session.new.pages) }
+    ensures through { ReadsThrough session.old session.new.scans session.new.groups
+        (request_of command.now) result }
 {
     match command {
         Command::Begin => session.begin(alloc, host),
@@ -120,6 +125,8 @@ fn answer_objects<H: Host>(
         session.old (names_version session.old (request_of command.now))) }
     ensures shares { IsCopy (request_of command.now) → OnOk result
         (TakesLogged session.old.units session.new.units session.new.pages) }
+    ensures through { ReadsThrough session.old session.new.scans session.new.groups
+        (request_of command.now) result }
 {
     match command {
         Command::List { name } => list(session, alloc, host, name),
@@ -206,6 +213,10 @@ pub fn step<H: Host>(
         → (later : List ℕ) × ((H.outside host.new).disk ≡ Some later)
         × SaysLog session.old.geometry records later }
 
+    // A commit and a checkpoint write in the log alone, and at the homes of the pages whose images were committed before, whatever is answered.
+    ensures writes_home { ¬ IsQuiet (request_of command.now) → WritesHome (H.outside host.old)
+        (H.outside host.new) session.old }
+
     // After an accepted checkpoint no record counts.
     ensures none_counts { request_of command.now ≡ request.Checkpoint
         → result ≡ Ok Reply.Checkpoint → session.new.log.count ≡ 0 }
@@ -252,6 +263,10 @@ pub fn step<H: Host>(
     // A copy of a version shares its tree: each unit that comes into use is a logged page.
     ensures shares { IsCopy (request_of command.now) → OnOk result
         (TakesLogged session.old.units session.new.units session.new.pages) }
+
+    // A scan that is opened reads through the group that its line names, and what it gives next fills no other group.
+    ensures through { ReadsThrough session.old session.new.scans session.new.groups
+        (request_of command.now) result }
 
     // To a command that asks of no objects and gives no tree up, only a catalog that is outside of its grammar is damaged.
     ensures catalog { IsOfCatalog (request_of command.now) → (page : PageNo) (want got : Seen)

@@ -4,6 +4,7 @@ ghost use Rattle.ex_base.specs.Sizes.{volume_bytes};
 ghost use Rattle.table_model.specs.Requests.{is_request};
 ghost use Rattle.table_model.specs.Requests as request;
 ghost use Rattle.transactions.specs.Lines.{ScansLine};
+ghost use Rattle.transactions.specs.Scanning.{FillsItsGroup};
 ghost use Rattle.session_core.specs.Damage.{TellsDamage, no_version};
 
 use disk_model::Host;
@@ -25,6 +26,7 @@ pub(crate) fn next<H: Host>(
     requires form { IsTrue (is_request (request.Next name.now len)) }
     ensures line { ScansLine (H.outside host.old) (H.outside host.new) session.old session.new
         (request.Next name.now len) result }
+    ensures others { FillsItsGroup session.old session.new.groups name.now }
     ensures damage { IfErr result (TellsDamage (H.outside host.old) (H.outside host.new)
         session.old no_version) }
 {

@@ -1,12 +1,13 @@
 //! Scans are opened, and closed.
-ghost use Rattle.std.specs.Prelude.{◌≡◌, ◌≤◌, Some, option_map, IsTrue, MatchResult, OnOk, IfErr};
+ghost use Rattle.std.specs.Prelude.{◌≡◌, ◌≤◌, ◌⊎◌, Some, option_map, IsTrue, MatchResult, OnOk, IfOk, IfErr};
 ghost use Rattle.ex_base.specs.Sizes.{volume_bytes};
 ghost use Rattle.ex_base.specs.declared.names.Area.TheVariants.{Page};
 ghost use Rattle.session_core.specs.Counts.{free_in};
 ghost use Rattle.table_model.specs.Requests.{is_request, reference_of};
 ghost use Rattle.table_model.specs.Requests as request;
 ghost use Rattle.transactions.specs.Lines.{ScansLine, named_as};
-ghost use Rattle.transactions.specs.Scanning.{MayOpen, group_asked, scan_refusal};
+ghost use Rattle.session_core.specs.Steps.{IsRefused};
+ghost use Rattle.transactions.specs.Scanning.{MayOpen, OpensThrough, group_asked, scan_refusal};
 ghost use Rattle.session_core.specs.Damage.{TellsDamage, no_version};
 
 use disk_model::Host;
@@ -76,6 +77,8 @@ pub(crate) fn scan<H: Host>(
         (option_map (λ g. g.now) group))) }
     ensures line { ScansLine (H.outside host.old) (H.outside host.new) session.old session.new
         (request.Scan (reference_of x.now) name.now (option_map (λ g. g.now) group.entry)) result }
+    ensures through { IfOk result (λ told. IsRefused told ⊎ OpensThrough session.old
+        session.new.scans name.now (option_map (λ g. g.now) group.entry)) }
     ensures damage { IfErr result (TellsDamage (H.outside host.old) (H.outside host.new)
         session.old (named_as session.old (reference_of x.now))) }
 {

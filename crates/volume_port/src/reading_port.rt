@@ -13,6 +13,7 @@ ghost use Rattle.buffer_groups.specs.Frames.{Frames, Lends, page_of};
 ghost use Rattle.meta_pages.specs.Overlays.{image_at};
 ghost use Rattle.tree_store.specs.Stored.{AreFromCatalog};
 ghost use Rattle.volume_port.specs.Ported.{image_over};
+ghost use Rattle.volume_port.specs.Reading.{OthersStay};
 
 use crate::logged::LoggedPages;
 use crate::room::PageRoom;
@@ -70,6 +71,7 @@ pub(crate) fn read_image<D: Disk>(
     ensures len { OnOk result (length room.new ≡ meta.now.geometry.page_size) }
     ensures keeps { GroupsKeep (D.outside disk.old).disk groups.old groups.new }
     ensures behind { AreFromCatalog groups.old → AreFromCatalog groups.new }
+    ensures others { OthersStay index groups.old groups.new }
     ensures only { ReadsOnly (D.outside disk.old) (D.outside disk.new) }
     ensures cause { HasFetchCause (D.outside disk.old).disk_faults
         (D.outside disk.new).disk_faults result }

@@ -52,7 +52,7 @@ impl Session {
     ghost use Rattle.table_model.specs.Requests as request;
     ghost use Rattle.session_views.specs.declared.stop.Stop.{Stop};
     ghost use Rattle.session_views.specs.View.{View, ShowsNow};
-    ghost use Rattle.session_core.specs.Commits.{JustReached, LogsCommit, working_reach};
+    ghost use Rattle.session_core.specs.Commits.{JustReached, LogsCommit, WritesHome, working_reach};
     ghost use Rattle.session_core.specs.Sessions.{FreesGivenBack, SessionState};
     ghost use Rattle.session_core.specs.Damage.{TellsDamage, no_version};
     ghost use Rattle.session_core.specs.Meant.{meant};
@@ -85,6 +85,9 @@ impl Session {
         // Where memory is wanted, the disk was read at most, and the log is what it was.
         ensures unwritten { result ≡ Err Stop.Memory
             → ReadsOnly (H.outside host.old) (H.outside host.new) × (self.new.log ≡ self.old.log) }
+
+        // Whatever is answered, it writes in the log alone, and at the homes of the pages whose images were committed before.
+        ensures writes { WritesHome (H.outside host.old) (H.outside host.new) self.old }
     {
         if !self.phase.is_open() {
             return Ok(Reply::No(Refusal::NoTxn));
@@ -152,6 +155,7 @@ impl Session {
         ensures none_counts { result ≡ Ok Reply.Checkpoint → self.new.log.count ≡ 0 }
         ensures disk_alone { IfErr result (λ why. why ≡ Stop.Disk) }
         ensures takes_none { result ≡ Err Stop.Memory → ⊥ }
+        ensures writes { WritesHome (H.outside host.old) (H.outside host.new) self.old }
     {
         if self.phase.is_open() {
             return Ok(Reply::No(Refusal::TxnOpen));

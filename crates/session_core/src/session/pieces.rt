@@ -4,6 +4,7 @@ ghost use Rattle.ex_base.specs.Sizes.{volume_bytes};
 ghost use Rattle.open_scans.specs.OpenScans.{AtRow, row_after};
 ghost use Rattle.session_core.specs.Finding.{IfShown};
 ghost use Rattle.session_core.specs.ScanRows.{AtScan, bytes_next, with_scans};
+ghost use Rattle.volume_port.specs.Reading.{OthersStay};
 
 use super::Session;
 use super::objects::or_stop;
@@ -38,7 +39,8 @@ impl Session {
     }
 
     /// Gives the next `len` bytes of the scan at an index, or all that are left where they are fewer, and moves it on behind them. It reads through the
-    /// scan's group. It stops where the disk fails, where memory is wanted, and at a page that isn't what names it; then no scan moves.
+    /// scan's group, and no other group changes. It stops where the disk fails, where memory is wanted, and at a page that isn't what names it; then no
+    /// scan moves.
     pub fn next_piece<D: Disk>(
         &mut self,
         alloc: Global,
@@ -51,6 +53,8 @@ impl Session {
         ensures session { IsSession self.old }
         ensures only { OnlyFrames (D.outside disk.old) (D.outside disk.new)
             (with_scans self.old self.new.scans) self.new }
+        ensures others { AtRow self.old.scans index
+            (λ row. OthersStay row.group self.old.groups self.new.groups) }
         ensures moved { OnOk result (AtRow self.old.scans index
             (λ row. self.new.scans ≡ slice_set self.old.scans index (row_after len row))) }
         ensures stays { OnErr result (self.new.scans ≡ self.old.scans) }

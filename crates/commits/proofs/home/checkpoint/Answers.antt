@@ -2,7 +2,7 @@ use Rattle.std.proofs.Common.{◌≡◌, ℕ, List, [], All, Some, IsTrue, sym, 
 use Rattle.ex_base.specs.Area.{catalog_no}
 use Rattle.ex_base.specs.declared.geometry.Geometry.{Geometry}
 use Rattle.disk_model.specs.Outside.{Leaves}
-use Rattle.disk_model.specs.Changes.{ChangesWithin, InRange}
+use Rattle.disk_model.specs.Changes.{ChangesWithin, InRange, changes_refl}
 use Rattle.disk_model.specs.Runs.{leaves_start, honest_on}
 use Rattle.meta_pages.specs.Homes.{InHomes}
 use Rattle.meta_pages.specs.Overlays.{Overlays, IsPageRow}
@@ -13,7 +13,9 @@ use Rattle.volume_model.specs.CrashImage.{agrees_stands}
 use Rattle.volume_model.specs.Volume.{Decoded}
 use Rattle.commits.proofs.Closing.{on_ok_of_three, WentHome, went_home, none_to_close, mid_keeps, homes_leave, close_leaves, closed_down, first_gate_before}
 use Rattle.commits.proofs.Lending.{lends_on}
+use Rattle.commits.proofs.LogBytes.{home_and_gate, images_written}
 use Rattle.commits.specs.Room.{BeforeCatalog}
+use Rattle.commits.specs.Written.{InLogOrHomes}
 use Rattle.commits.proofs.home.checkpoint.Given as given
 use Rattle.commits.proofs.home.checkpoint.Goals as goal
 use Rattle.commits.proofs.home.checkpoint.Goals.{After-close_all}
@@ -91,3 +93,16 @@ returns-clause-any_moment g c d held honest holds committed =
     let same = ap (λ (s : LogState). s.geometry) committed.shown.log_is in
     close_leaves d held c.args.meta.now.committed (g.D.World.outside c.args.disk.now) b e (g.D.World.is_world c.write_home.new.disk) committed.parts (went g after d held honest holds committed) (gate g after d held committed)
     (subst (λ (h : Geometry). Leaves b e (SaysEither h d.records [])) same (c.close_all.ensures.any_moment d.records (ap (λ (s : LogState). s.count) committed.shown.log_is) (keeps g after d held honest holds committed)))
+
+-- ---- what it writes
+
+pub returns-then-count-eq0-clause-writes : goal.returns-then-count-eq0-clause-writes
+returns-then-count-eq0-clause-writes g c =
+    changes_refl (InLogOrHomes c.args.meta.now.geometry.page_size c.args.meta.now.committed) (g.D.World.outside c.args.disk.now)
+
+pub returns-in_err-write_home-clause-writes : goal.returns-in_err-write_home-clause-writes
+returns-in_err-write_home-clause-writes g c = images_written c.args.meta.now.geometry.page_size c.args.meta.now.committed c.write_home.ensures.changes
+
+pub returns-clause-writes : goal.returns-clause-writes
+returns-clause-writes g c =
+    home_and_gate c.args.meta.now.geometry c.args.log.now.geometry c.args.meta.now.committed c.requires.geometry c.write_home.ensures.changes c.close_all.ensures.changes

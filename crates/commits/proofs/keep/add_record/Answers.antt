@@ -7,7 +7,9 @@ use Rattle.op_log.specs.State.{LogState}
 use Rattle.volume_model.specs.Committed.{Committed, MayCommit, StandsForEither}
 use Rattle.volume_model.specs.Volume.{Volume, Decoded}
 use Rattle.commits.specs.Room.{BeforeCatalog}
+use Rattle.commits.specs.Written.{InLog}
 use Rattle.commits.proofs.Adding.{prolongs, keeps_log, is_next, add_leaves, add_done, before_catalog}
+use Rattle.commits.proofs.LogBytes.{record_written}
 use Rattle.commits.proofs.RoomInLog.{few_named, logged_then}
 use Rattle.commits.proofs.keep.add_record.Given as given
 use Rattle.commits.proofs.keep.add_record.Goals as goal
@@ -47,6 +49,20 @@ returns-in_err-append-clause-changes g c = changes g (goal.at.returns-in_err-app
 
 pub returns-clause-changes : goal.returns-clause-changes
 returns-clause-changes g c = changes g (goal.at.returns-clause-changes g c).After-append
+
+writes : (g : given.Over) (c : After-append g)
+    → ChangesWithin (InLog c.args.meta.now.geometry.page_size) (g.D.World.outside c.args.disk.now) (g.D.World.outside c.append.new.disk)
+writes g c =
+    let a = g.D.World.outside c.args.disk.now in
+    let b = g.D.World.outside c.append.new.disk in
+    subst (λ (h : Geometry). ChangesWithin (InLog h.page_size) a b) c.requires.geometry
+    (record_written c.args.log.now c.args.item.now c.requires.fits c.append.ensures.changes)
+
+pub returns-in_err-append-clause-writes : goal.returns-in_err-append-clause-writes
+returns-in_err-append-clause-writes g c = writes g (goal.at.returns-in_err-append-clause-writes g c).After-append
+
+pub returns-clause-writes : goal.returns-clause-writes
+returns-clause-writes g c = writes g (goal.at.returns-clause-writes g c).After-append
 
 pub keep-requires : goal.keep-requires
 keep-requires g c =

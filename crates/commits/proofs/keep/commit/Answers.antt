@@ -7,11 +7,13 @@ use Rattle.volume_model.specs.Committed.{Committed, CommittedAs, MayCommit, IsOv
 use Rattle.volume_model.specs.Shown.{WorkingRow}
 use Rattle.volume_model.specs.Volume.{Volume, Decoded}
 use Rattle.commits.specs.Room.{AreBehindLog, BeforeCatalog}
+use Rattle.commits.specs.Written.{InLog, InLogOrHomes}
 use Rattle.disk_model.specs.Changes.{ChangesWithin}
 use Rattle.ex_base.specs.declared.geometry.Geometry.{Geometry}
 use Rattle.commits.specs.Steps.{HasRoom}
 use Rattle.commits.proofs.Composed.{now, may_still, either_still, committed_still}
 use Rattle.commits.proofs.Lending.{lends_on}
+use Rattle.commits.proofs.LogBytes.{then_log}
 use Rattle.commits.proofs.keep.commit.Given as given
 use Rattle.commits.proofs.keep.commit.Goals as goal
 use Rattle.commits.proofs.keep.commit.Goals.{After-add_record}
@@ -30,6 +32,23 @@ returns-in_default-clause-only g c = only g (goal.at.returns-in_default-clause-o
 
 pub returns-clause-only : goal.returns-clause-only
 returns-clause-only g c = only g (goal.at.returns-clause-only g c).After-add_record
+
+writes : (g : given.Over) (c : After-add_record g) → ChangesWithin (InLogOrHomes c.args.meta.now.geometry.page_size c.args.meta.now.committed)
+    (g.D.World.outside c.args.disk.now) (g.D.World.outside c.add_record.new.disk)
+writes g c =
+    let b = g.D.World.outside c.record_with_room.new.disk in
+    let e = g.D.World.outside c.add_record.new.disk in
+    then_log c.args.meta.now.geometry.page_size c.args.meta.now.committed c.record_with_room.ensures.writes
+    (subst (λ (h : Geometry). ChangesWithin (InLog h.page_size) b e) c.record_with_room.ensures.same_geometry c.add_record.ensures.writes)
+
+pub returns-in_err-item-clause-writes : goal.returns-in_err-item-clause-writes
+returns-in_err-item-clause-writes g c = c.record_with_room.ensures.writes
+
+pub returns-in_default-clause-writes : goal.returns-in_default-clause-writes
+returns-in_default-clause-writes g c = writes g (goal.at.returns-in_default-clause-writes g c).After-add_record
+
+pub returns-clause-writes : goal.returns-clause-writes
+returns-clause-writes g c = writes g (goal.at.returns-clause-writes g c).After-add_record
 
 lends : (g : given.Over) (c : After-add_record g) → IsTrue (g.D.World.outside c.args.disk.now).honest → AreBehindLog c.args.groups.now → All (Lends (g.D.World.outside c.args.disk.now).disk) c.args.groups.now
     → All (Lends (g.D.World.outside c.add_record.new.disk).disk) c.record_with_room.new.groups

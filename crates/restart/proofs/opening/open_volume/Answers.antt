@@ -1,18 +1,20 @@
-use Rattle.std.proofs.Common.{◌≡◌, ℕ, List, Some, IsTrue, refl, ◌∙◌, arith}
-use Rattle.disk_model.specs.Outside.{DiskOnly, Leaves}
-use Rattle.disk_model.specs.Runs.{disk_trans, honest_on, writes_nothing_refl, writes_nothing_trans}
+use Rattle.std.proofs.Common.{◌≡◌, ℕ, inl, List, [], Some, IsTrue, refl, sym, subst, ◌∙◌, arith}
+use Rattle.disk_model.specs.Changes.{ChangesWithin, changes_nothing, changes_trans}
+use Rattle.disk_model.specs.Outside.{DiskOnly, Leaves, WritesNothing}
+use Rattle.disk_model.specs.Runs.{disk_trans, honest_on, leaves_start, writes_nothing_refl, writes_nothing_trans}
 use Rattle.session_views.specs.declared.Part.{Part}
 use Rattle.table_model.specs.declared.table.Table.{Table}
 use Rattle.volume_model.specs.Meaning.{no_part}
-use Rattle.volume_model.specs.Parts.{FirstBad, StandsFor}
-use Rattle.volume_model.specs.Volume.{table_of, units_of}
+use Rattle.volume_model.specs.Parts.{Decodes, FirstBad, StandsFor}
+use Rattle.volume_model.specs.Volume.{Decoded, table_of, units_of}
 use Rattle.volume_model.specs.Committed.{Committed}
 use Rattle.page_alloc.specs.UnitSet.{refs_at, used_at}
 use Rattle.volume_port.specs.Logged.{is_held}
 use Rattle.node_walk.proofs.Facts.{handed_err}
 use Rattle.restart.proofs.AtRest.{rests_as}
+use Rattle.restart.proofs.LogOpened.{logged_homes, none_counts, parted_at, stays_as}
 use Rattle.restart.proofs.Opened.{all_closed, holds_same, holds_still, opened_on, opens_as, quiet_leaves, read_committed}
-use Rattle.restart.specs.Opening.{HoldsAs, OpensAs, ReadsAs}
+use Rattle.restart.specs.Opening.{HoldsAs, InLogOrLogged, OpensAs, PartsMoments, ReadsAs, StaysAs}
 use Rattle.restart.proofs.opening.open_volume.Given as given
 use Rattle.restart.proofs.opening.open_volume.Goals as goal
 use Rattle.restart.proofs.opening.open_volume.Goals.{After-checkpoint}
@@ -144,3 +146,79 @@ returns-in_default-checkpoint-clause-holds g c = held g (goal.at.returns-in_defa
 
 pub returns-clause-holds : goal.returns-clause-holds
 returns-clause-holds g c = held g (goal.at.returns-clause-holds g c).After-checkpoint
+
+-- ---- where it writes
+
+pub returns-in_default-clause-clean : goal.returns-in_default-clause-clean
+returns-in_default-clause-clean g c image d holds parts none = c.sync.ensures.only
+
+pub returns-in_err-parts-clause-clean : goal.returns-in_err-parts-clause-clean
+returns-in_err-parts-clause-clean g c image d holds parts none = writes_nothing_trans c.sync.ensures.only c.read_volume.ensures.only.nothing
+
+clean : (g : given.Over) (c : After-checkpoint g) (image : List ℕ) (d : Decoded) → (g.D.World.outside c.args.disk.now).disk ≡ Some image → Decodes image d
+    → d.records ≡ [] → WritesNothing (g.D.World.outside c.args.disk.now) (g.D.World.outside c.checkpoint.new.disk)
+clean g c image d holds parts none =
+    let count = none_counts parts (reads g c image holds) none in
+    subst (λ w. WritesNothing (g.D.World.outside c.args.disk.now) (g.D.World.outside w)) (sym (c.checkpoint.ensures.no_call count))
+    (writes_nothing_trans c.sync.ensures.only c.read_volume.ensures.only.nothing)
+
+pub returns-in_default-checkpoint-clause-clean : goal.returns-in_default-checkpoint-clause-clean
+returns-in_default-checkpoint-clause-clean g c = clean g (goal.at.returns-in_default-checkpoint-clause-clean g c).After-checkpoint
+
+pub returns-clause-clean : goal.returns-clause-clean
+returns-clause-clean g c = clean g (goal.at.returns-clause-clean g c).After-checkpoint
+
+pub returns-in_default-clause-writes : goal.returns-in_default-clause-writes
+returns-in_default-clause-writes g c image d holds parts = changes_nothing (InLogOrLogged d) c.sync.ensures.only
+
+pub returns-in_err-parts-clause-writes : goal.returns-in_err-parts-clause-writes
+returns-in_err-parts-clause-writes g c image d holds parts =
+    changes_nothing (InLogOrLogged d) (writes_nothing_trans c.sync.ensures.only c.read_volume.ensures.only.nothing)
+
+writes : (g : given.Over) (c : After-checkpoint g) (image : List ℕ) (d : Decoded) → (g.D.World.outside c.args.disk.now).disk ≡ Some image → Decodes image d
+    → ChangesWithin (InLogOrLogged d) (g.D.World.outside c.args.disk.now) (g.D.World.outside c.checkpoint.new.disk)
+writes g c image d holds parts =
+    let p = c.in_ok-parts.parts in
+    changes_trans (changes_nothing (InLogOrLogged d) (writes_nothing_trans c.sync.ensures.only c.read_volume.ensures.only.nothing))
+    (logged_homes parts (reads g c image holds) p.meta.geometry c.in_ok-parts.ensures.fresh.meta c.checkpoint.ensures.writes)
+
+pub returns-in_default-checkpoint-clause-writes : goal.returns-in_default-checkpoint-clause-writes
+returns-in_default-checkpoint-clause-writes g c = writes g (goal.at.returns-in_default-checkpoint-clause-writes g c).After-checkpoint
+
+pub returns-clause-writes : goal.returns-clause-writes
+returns-clause-writes g c = writes g (goal.at.returns-clause-writes g c).After-checkpoint
+
+-- ---- since when nothing of before is left
+
+pub returns-in_default-clause-parted : goal.returns-in_default-clause-parted
+returns-in_default-clause-parted g c other = absurd (other refl)
+
+pub returns-in_err-parts-clause-parted : goal.returns-in_err-parts-clause-parted
+returns-in_err-parts-clause-parted g c other image honest holds =
+    let b = g.D.World.outside c.sync.new.self in
+    let e = g.D.World.outside c.read_volume.new.disk in
+    let quiet = c.read_volume.ensures.only.nothing in
+    let here = honest_on c.sync.ensures.only.only.goes honest in
+    parted_at (g.D.World.outside c.args.disk.now) b e e image (g.D.World.is_world c.sync.new.self) honest holds c.sync.ensures.only
+    c.in-Ok.ensures.settles quiet
+    (leaves_start e (StaysAs image) (g.D.World.is_world c.read_volume.new.disk)
+    (λ d now. inl (c.in-Ok.ensures.settles honest image holds d (quiet.back here d now))))
+
+parted : (g : given.Over) (c : After-checkpoint g) (image : List ℕ) → IsTrue (g.D.World.outside c.args.disk.now).honest
+    → (g.D.World.outside c.args.disk.now).disk ≡ Some image
+    → PartsMoments (g.D.World.outside c.args.disk.now) (g.D.World.outside c.checkpoint.new.disk) image
+parted g c image honest holds =
+    let read = reads g c image holds in
+    let here = honest_on c.read_volume.ensures.only.nothing.only.goes (honest_on c.sync.ensures.only.only.goes honest) in
+    parted_at (g.D.World.outside c.args.disk.now) (g.D.World.outside c.sync.new.self) (g.D.World.outside c.read_volume.new.disk)
+    (g.D.World.outside c.checkpoint.new.disk) image (g.D.World.is_world c.sync.new.self) honest holds
+    c.sync.ensures.only c.in-Ok.ensures.settles c.read_volume.ensures.only.nothing
+    (stays_as image read.decoded read.parts
+    (c.checkpoint.ensures.any_moment read.decoded image here (c.read_volume.ensures.only.nothing.disk ∙ (c.sync.ensures.only.disk ∙ holds))
+    (committed g c image honest holds)))
+
+pub returns-in_default-checkpoint-clause-parted : goal.returns-in_default-checkpoint-clause-parted
+returns-in_default-checkpoint-clause-parted g c other = absurd (other refl)
+
+pub returns-clause-parted : goal.returns-clause-parted
+returns-clause-parted g c other = parted g (goal.at.returns-clause-parted g c).After-checkpoint

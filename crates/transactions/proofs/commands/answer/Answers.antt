@@ -2,7 +2,7 @@ use Rattle.std.proofs.Common.{Ok, ap, subst, sym, true≢false}
 use Rattle.table_model.specs.Requests.{request_of}
 use Rattle.table_model.specs.Requests as request
 use Rattle.table_model.specs.declared.reply.Reply.{Reply}
-use Rattle.session_core.specs.Steps.{StepsQuietly}
+use Rattle.session_core.specs.Steps.{StepsQuietly, is_quiet}
 use Rattle.transactions.proofs.Aborts.{is_abort}
 use Rattle.transactions.proofs.Accepted.{log_quietly, space_quietly}
 use Rattle.transactions.proofs.Commanding.{disk_alone, memory_alone, of_quiet, of_scans, of_step}
@@ -10,6 +10,8 @@ use Rattle.std.proofs.lemmas.Result.{IfErr-weaker}
 use Rattle.session_core.specs.Damage.{no_version}
 use Rattle.session_core.proofs.Damage.{catalog_told}
 use Rattle.transactions.specs.Commands.{names_version}
+use Rattle.transactions.proofs.QuietCommands.{quiet_but}
+use Rattle.transactions.proofs.Through.{of_no_scan}
 use Rattle.transactions.proofs.Damage.{damage_as, disk_damage, memory_damage}
 use Rattle.transactions.proofs.commands.answer.Goals as goal
 
@@ -87,3 +89,79 @@ returns-in-Checkpoint-clause-damage g c = IfErr-weaker c.checkpoint.result _ _ (
 
 pub returns-in-Group-clause-damage : goal.returns-in-Group-clause-damage
 returns-in-Group-clause-damage g c = IfErr-weaker c.group.result _ _ (memory_damage (g.H.World.outside c.args.host.now) (g.H.World.outside c.args.host.now) c.args.session.now (names_version c.args.session.now (request_of c.args.command.now))) c.group.ensures.memory
+
+-- ---- where a commit and a checkpoint write
+
+pub returns-in-Commit-clause-writes : goal.returns-in-Commit-clause-writes
+returns-in-Commit-clause-writes g c _ = c.commit.ensures.writes
+
+pub returns-in-Checkpoint-clause-writes : goal.returns-in-Checkpoint-clause-writes
+returns-in-Checkpoint-clause-writes g c _ = c.checkpoint.ensures.writes
+
+pub returns-in-Begin-clause-writes : goal.returns-in-Begin-clause-writes
+returns-in-Begin-clause-writes g c loud = absurd (loud (ap is_quiet (ap request_of c.in-Begin.is)))
+
+pub returns-in-Abort-clause-writes : goal.returns-in-Abort-clause-writes
+returns-in-Abort-clause-writes g c loud = absurd (loud (ap is_quiet (ap request_of c.in-Abort.is)))
+
+pub returns-in-Log-clause-writes : goal.returns-in-Log-clause-writes
+returns-in-Log-clause-writes g c loud = absurd (loud (ap is_quiet (ap request_of c.in-Log.is)))
+
+pub returns-in-Files-clause-writes : goal.returns-in-Files-clause-writes
+returns-in-Files-clause-writes g c loud = absurd (loud (ap is_quiet (ap request_of c.in-Files.is)))
+
+pub returns-in-Space-clause-writes : goal.returns-in-Space-clause-writes
+returns-in-Space-clause-writes g c loud = absurd (loud (ap is_quiet (ap request_of c.in-Space.is)))
+
+pub returns-in-File-clause-writes : goal.returns-in-File-clause-writes
+returns-in-File-clause-writes g c loud = absurd (loud (ap is_quiet (ap request_of c.in-File.is)))
+
+pub returns-in-Unfile-clause-writes : goal.returns-in-Unfile-clause-writes
+returns-in-Unfile-clause-writes g c loud = absurd (loud (ap is_quiet (ap request_of c.in-Unfile.is)))
+
+pub returns-in-Group-clause-writes : goal.returns-in-Group-clause-writes
+returns-in-Group-clause-writes g c loud = absurd (loud (ap is_quiet (ap request_of c.in-Group.is)))
+
+pub returns-in-Close-clause-writes : goal.returns-in-Close-clause-writes
+returns-in-Close-clause-writes g c loud = absurd (loud (ap is_quiet (ap request_of c.in-Close.is)))
+
+pub returns-in_default-clause-writes : goal.returns-in_default-clause-writes
+returns-in_default-clause-writes g c loud = absurd (loud (quiet_but c.args.command.now c.in_default.not-Commit c.in_default.not-Checkpoint))
+
+-- ---- which groups scans read through
+
+pub returns-in-Begin-clause-through : goal.returns-in-Begin-clause-through
+returns-in-Begin-clause-through g c = of_no_scan c.args.session.now _ _ _ (ap request_of c.in-Begin.is) tt
+
+pub returns-in-Commit-clause-through : goal.returns-in-Commit-clause-through
+returns-in-Commit-clause-through g c = of_no_scan c.args.session.now _ _ _ (ap request_of c.in-Commit.is) tt
+
+pub returns-in-Abort-clause-through : goal.returns-in-Abort-clause-through
+returns-in-Abort-clause-through g c = of_no_scan c.args.session.now _ _ _ (ap request_of c.in-Abort.is) tt
+
+pub returns-in-Checkpoint-clause-through : goal.returns-in-Checkpoint-clause-through
+returns-in-Checkpoint-clause-through g c = of_no_scan c.args.session.now _ _ _ (ap request_of c.in-Checkpoint.is) tt
+
+pub returns-in-Log-clause-through : goal.returns-in-Log-clause-through
+returns-in-Log-clause-through g c = of_no_scan c.args.session.now _ _ _ (ap request_of c.in-Log.is) tt
+
+pub returns-in-Files-clause-through : goal.returns-in-Files-clause-through
+returns-in-Files-clause-through g c = of_no_scan c.args.session.now _ _ _ (ap request_of c.in-Files.is) tt
+
+pub returns-in-Space-clause-through : goal.returns-in-Space-clause-through
+returns-in-Space-clause-through g c = of_no_scan c.args.session.now _ _ _ (ap request_of c.in-Space.is) tt
+
+pub returns-in-File-clause-through : goal.returns-in-File-clause-through
+returns-in-File-clause-through g c = of_no_scan c.args.session.now _ _ _ (ap request_of c.in-File.is) tt
+
+pub returns-in-Unfile-clause-through : goal.returns-in-Unfile-clause-through
+returns-in-Unfile-clause-through g c = of_no_scan c.args.session.now _ _ _ (ap request_of c.in-Unfile.is) tt
+
+pub returns-in-Group-clause-through : goal.returns-in-Group-clause-through
+returns-in-Group-clause-through g c = of_no_scan c.args.session.now _ _ _ (ap request_of c.in-Group.is) tt
+
+pub returns-in-Close-clause-through : goal.returns-in-Close-clause-through
+returns-in-Close-clause-through g c = of_no_scan c.args.session.now _ _ _ (ap request_of c.in-Close.is) tt
+
+pub returns-in_default-clause-through : goal.returns-in_default-clause-through
+returns-in_default-clause-through g c = c.answer_objects.ensures.through

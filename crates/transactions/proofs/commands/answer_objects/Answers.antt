@@ -5,6 +5,7 @@ use Rattle.std.specs.Prelude.{option_map}
 use Rattle.table_model.specs.Requests.{Request, given_of, is_given, is_kept_name_if, is_position, is_reference, is_request, request_of, reference_of}
 use Rattle.table_model.specs.Requests as request
 use Rattle.transactions.proofs.Commanding.{asks_more, of_read, of_scans, of_update}
+use Rattle.transactions.proofs.Through.{of_no_scan}
 use Rattle.transactions.proofs.Damage.{damage_as}
 use Rattle.transactions.proofs.commands.answer_objects.Goals as goal
 
@@ -126,3 +127,56 @@ replace-requires-clause-given g c = (and_parts (is_reference (reference_of c.in-
 
 pub append-requires-clause-given : goal.append-requires-clause-given
 append-requires-clause-given g c = (and_parts (is_reference (reference_of c.in-Append.x)) (is_given (given_of c.in-Append.given)) (sym (ap (λ (r : Request). is_request r) (ap request_of c.in-Append.is)) ∙ c.requires.form)).1
+
+-- ---- which groups scans read through
+
+pub returns-in-Append-clause-through : goal.returns-in-Append-clause-through
+returns-in-Append-clause-through g c = of_no_scan c.args.session.now _ _ _ (ap request_of c.in-Append.is) tt
+
+pub returns-in-Create-clause-through : goal.returns-in-Create-clause-through
+returns-in-Create-clause-through g c = of_no_scan c.args.session.now _ _ _ (ap request_of c.in-Create.is) tt
+
+pub returns-in-Delete-clause-through : goal.returns-in-Delete-clause-through
+returns-in-Delete-clause-through g c = of_no_scan c.args.session.now _ _ _ (ap request_of c.in-Delete.is) tt
+
+pub returns-in-Derive-clause-through : goal.returns-in-Derive-clause-through
+returns-in-Derive-clause-through g c = of_no_scan c.args.session.now _ _ _ (ap request_of c.in-Derive.is) tt
+
+pub returns-in-Destroy-clause-through : goal.returns-in-Destroy-clause-through
+returns-in-Destroy-clause-through g c = of_no_scan c.args.session.now _ _ _ (ap request_of c.in-Destroy.is) tt
+
+pub returns-in-Digest-clause-through : goal.returns-in-Digest-clause-through
+returns-in-Digest-clause-through g c = of_no_scan c.args.session.now _ _ _ (ap request_of c.in-Digest.is) tt
+
+pub returns-in-DropVersion-clause-through : goal.returns-in-DropVersion-clause-through
+returns-in-DropVersion-clause-through g c = of_no_scan c.args.session.now _ _ _ (ap request_of c.in-DropVersion.is) tt
+
+pub returns-in-Freeze-clause-through : goal.returns-in-Freeze-clause-through
+returns-in-Freeze-clause-through g c = of_no_scan c.args.session.now _ _ _ (ap request_of c.in-Freeze.is) tt
+
+pub returns-in-Insert-clause-through : goal.returns-in-Insert-clause-through
+returns-in-Insert-clause-through g c = of_no_scan c.args.session.now _ _ _ (ap request_of c.in-Insert.is) tt
+
+pub returns-in-List-clause-through : goal.returns-in-List-clause-through
+returns-in-List-clause-through g c = of_no_scan c.args.session.now _ _ _ (ap request_of c.in-List.is) tt
+
+pub returns-in-Read-clause-through : goal.returns-in-Read-clause-through
+returns-in-Read-clause-through g c = of_no_scan c.args.session.now _ _ _ (ap request_of c.in-Read.is) tt
+
+pub returns-in-Replace-clause-through : goal.returns-in-Replace-clause-through
+returns-in-Replace-clause-through g c = of_no_scan c.args.session.now _ _ _ (ap request_of c.in-Replace.is) tt
+
+pub returns-in-Size-clause-through : goal.returns-in-Size-clause-through
+returns-in-Size-clause-through g c = of_no_scan c.args.session.now _ _ _ (ap request_of c.in-Size.is) tt
+
+pub returns-in-Stat-clause-through : goal.returns-in-Stat-clause-through
+returns-in-Stat-clause-through g c = of_no_scan c.args.session.now _ _ _ (ap request_of c.in-Stat.is) tt
+
+pub returns-in-Versions-clause-through : goal.returns-in-Versions-clause-through
+returns-in-Versions-clause-through g c = of_no_scan c.args.session.now _ _ _ (ap request_of c.in-Versions.is) tt
+
+pub returns-in-Scan-clause-through : goal.returns-in-Scan-clause-through
+returns-in-Scan-clause-through g c = of_no_scan c.args.session.now _ _ _ (ap request_of c.in-Scan.is) c.scan.ensures.through
+
+pub returns-in-Next-clause-through : goal.returns-in-Next-clause-through
+returns-in-Next-clause-through g c = of_no_scan c.args.session.now _ _ _ (ap request_of c.in-Next.is) c.next.ensures.others

@@ -1,9 +1,12 @@
-use Rattle.std.proofs.Common.{◌∙◌, ap}
+use Rattle.std.proofs.Common.{◌∙◌, ap, sym, subst}
 use Rattle.session_core.specs.Sessions.{SessionState}
 use Rattle.disk_model.specs.Changes.{changes_refl}
 use Rattle.volume_model.specs.Durable.{IsDurable}
 use Rattle.table_model.specs.Requests.{request_of}
+use Rattle.session_views.specs.declared.Stop.TheVariants as stop
 use Rattle.transactions.specs.Commands.{names_version}
+use Rattle.transactions.specs.Scanning.{ReadsThrough}
+use Rattle.transactions.proofs.Through.{none_through}
 use Rattle.transactions.proofs.Commanding.{is_sound, leaves_durable, leaves_records}
 use Rattle.transactions.proofs.Damage.{damage_at}
 use Rattle.transactions.proofs.commands.step.Goals as goal
@@ -50,3 +53,23 @@ returns-then-is_err-clause-unused g c = c.answer-told.ensures.answers.writes
 
 pub returns-else-is_err-clause-unused : goal.returns-else-is_err-clause-unused
 returns-else-is_err-clause-unused g c = c.answer-told.ensures.answers.writes
+
+pub returns-then-is_down-clause-writes_home : goal.returns-then-is_down-clause-writes_home
+returns-then-is_down-clause-writes_home g c _ = changes_refl _ (g.H.World.outside c.args.host.now)
+
+pub returns-then-is_err-clause-writes_home : goal.returns-then-is_err-clause-writes_home
+returns-then-is_err-clause-writes_home g c = c.answer-told.ensures.writes
+
+pub returns-else-is_err-clause-writes_home : goal.returns-else-is_err-clause-writes_home
+returns-else-is_err-clause-writes_home g c = c.answer-told.ensures.writes
+
+pub returns-then-is_down-clause-through : goal.returns-then-is_down-clause-through
+returns-then-is_down-clause-through g c = none_through c.args.session.now (request_of c.args.command.now) stop.Down
+
+pub returns-then-is_err-clause-through : goal.returns-then-is_err-clause-through
+returns-then-is_err-clause-through g c =
+    subst (λ (s : SessionState). ReadsThrough c.args.session.now s.scans s.groups (request_of c.args.command.now) c.answer-told.result)
+    (sym c.put_down.ensures) c.answer-told.ensures.through
+
+pub returns-else-is_err-clause-through : goal.returns-else-is_err-clause-through
+returns-else-is_err-clause-through g c = c.answer-told.ensures.through

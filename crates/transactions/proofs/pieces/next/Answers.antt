@@ -1,5 +1,5 @@
-use Rattle.std.proofs.Common.{◌∙◌, sym}
-use Rattle.transactions.proofs.ScanLines.{next_line, next_refused, next_stopped}
+use Rattle.std.proofs.Common.{◌∙◌, refl, sym}
+use Rattle.transactions.proofs.ScanLines.{fills_own, next_line, next_refused, next_stopped}
 use Rattle.transactions.proofs.pieces.next.Goals as goal
 
 pub returns-in-None-clause-line : goal.returns-in-None-clause-line
@@ -14,3 +14,12 @@ returns-in-Ok-clause-line g c = next_line c.args.name.now c.args.len c.in-Some.i
 
 pub returns-in-Err-clause-line : goal.returns-in-Err-clause-line
 returns-in-Err-clause-line g c = next_stopped c.args.name.now c.args.len c.in-Some.index c.scan_index.ensures.session (sym c.in-Some.ensures.value) c.requires.form c.in-Err.stop c.next_piece.ensures.only c.in-Err.ensures.stops c.in-Err.ensures.sound
+
+pub returns-in-None-clause-others : goal.returns-in-None-clause-others
+returns-in-None-clause-others g c index at row here other apart = refl
+
+pub returns-in-Ok-clause-others : goal.returns-in-Ok-clause-others
+returns-in-Ok-clause-others g c = fills_own c.args.session.now c.next_piece.new.self c.args.name.now c.in-Some.index (sym c.in-Some.ensures.value) c.next_piece.ensures.others
+
+pub returns-in-Err-clause-others : goal.returns-in-Err-clause-others
+returns-in-Err-clause-others g c = fills_own c.args.session.now c.next_piece.new.self c.args.name.now c.in-Some.index (sym c.in-Some.ensures.value) c.next_piece.ensures.others

@@ -1,11 +1,11 @@
-use Rattle.std.proofs.Common.{List, ℕ, Ok, subst, sym}
+use Rattle.std.proofs.Common.{inl, inr, List, ℕ, Ok, refl, subst, sym}
 use Rattle.std.specs.Prelude.{option_map}
 use Rattle.table_model.specs.Requests.{reference_of}
 use Rattle.table_model.specs.Requests as request
 use Rattle.table_model.specs.declared.reply.Reply.TheVariants as reply
 use Rattle.session_core.proofs.Naming.{later_stops}
 use Rattle.transactions.specs.Lines.{ScansLine, named_as}
-use Rattle.transactions.proofs.Opened.{may_few, may_group, scan_done, scan_refused, scan_sound, scan_stopped}
+use Rattle.transactions.proofs.Opened.{may_few, may_group, opened_through, scan_done, scan_refused, scan_sound, scan_stopped}
 use Rattle.session_core.proofs.Damage.{none_wider}
 use Rattle.transactions.proofs.Damage.{oid_named, then_damage}
 use Rattle.transactions.proofs.scan_lines.scan.Goals as goal
@@ -47,3 +47,11 @@ pub returns-in-Err-open_scan-clause-damage : goal.returns-in-Err-open_scan-claus
 returns-in-Err-open_scan-clause-damage g c = then_damage (reference_of c.args.x.now) c.named.ensures.only (g.H.World.outside c.open_scan.new.host) c.in-Err-open_scan.stop
     (oid_named c.args.session.now (reference_of c.args.x.now) c.in-Ok-opening_of.opening.version c.in-Ok.told c.in-Ok-opening_of.ensures.found c.in-Ok.ensures.asked)
     c.in-Err-open_scan.ensures.damage
+
+pub returns-in-Err-opening_of-clause-through : goal.returns-in-Err-opening_of-clause-through
+returns-in-Err-opening_of-clause-through g c = inl (c.in-Err-opening_of.why, refl)
+
+pub returns-in-Ok-open_scan-clause-through : goal.returns-in-Ok-open_scan-clause-through
+returns-in-Ok-open_scan-clause-through g c =
+    let group = option_map (λ asked. asked.now) c.args.group in
+    inr (opened_through c.args.name.now group c.named.ensures.only c.in-Ok-open_scan.ensures.opened c.in-Ok-opening_of.ensures)

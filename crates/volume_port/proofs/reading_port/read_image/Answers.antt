@@ -2,6 +2,7 @@ use Rattle.std.proofs.Common.{◌≡◌, ◌∙◌, ℕ, List, length, ap}
 use Rattle.buffer_groups.specs.Frames.{Frames, Lends, page_of}
 use Rattle.buffer_groups.proofs.GroupLists.{at_index, groups_keep}
 use Rattle.volume_port.proofs.Homes.{behind_set, frame_after}
+use Rattle.volume_port.proofs.ReadingAlone.{others_set}
 use Rattle.volume_port.proofs.reading_port.read_image.Goals as goal
 
 pub returns-clause-behind : goal.returns-clause-behind
@@ -38,3 +39,12 @@ pub returns-clause-len : goal.returns-clause-len
 returns-clause-len g c =
     ap (λ (bytes : List ℕ). length bytes) c.in_ok-fill.ensures.filled ∙ c.in_ok-image.ensures.len
     ∙ at_index (λ (f : Frames). f.page_size ≡ c.args.meta.now.geometry.page_size) c.args.groups.now c.args.index c.at.result.now c.at.ensures.value c.requires.index c.requires.sizes
+
+pub returns-in_err-image-clause-others : goal.returns-in_err-image-clause-others
+returns-in_err-image-clause-others g c = others_set c.args.groups.now c.args.index c.image.follows.lender-at-none
+
+pub returns-in_err-fill-clause-others : goal.returns-in_err-fill-clause-others
+returns-in_err-fill-clause-others g c = others_set c.args.groups.now c.args.index c.image.follows.lender-at-none
+
+pub returns-clause-others : goal.returns-clause-others
+returns-clause-others g c = others_set c.args.groups.now c.args.index c.image.follows.lender-at-none

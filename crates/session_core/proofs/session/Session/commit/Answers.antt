@@ -8,7 +8,7 @@ use Rattle.ex_base.specs.declared.names.Root.{Root}
 use Rattle.ex_base.specs.Sizes.{volume_bytes}
 use Rattle.ex_base.proofs.Results.{if_no_error}
 use Rattle.disk_model.specs.Outside.{Outside, ReadsOnly}
-use Rattle.disk_model.specs.Runs.{reads_trans}
+use Rattle.disk_model.specs.Runs.{reads_refl, reads_trans}
 use Rattle.buffer_groups.specs.Frames.{Frames}
 use Rattle.op_log.specs.Records.{IsNote}
 use Rattle.meta_pages.specs.Overlays.{Overlays}
@@ -33,6 +33,7 @@ use Rattle.session_core.proofs.Tracking.{gone_put}
 use Rattle.session_core.proofs.Writing.{WasKept, WasMade, closed_as, commit_done, commit_left, commit_logged, commit_stopped, commits_at, frames_at, gave_at, lost_stopped, memory_fault, moments_at, own_at, settled_at}
 use Rattle.session_core.specs.Damage.{TellsDamage, no_version, of_lost}
 use Rattle.session_core.proofs.Damage.{catalog_told, giving_told, later_damage, spent_told, uncommitted_told}
+use Rattle.session_core.proofs.WritingHome.{home_unwritten, home_written}
 use Rattle.session_core.proofs.session.Session.commit.Goals as goal
 
 pub returns-then-not-is_open-clause-steps : goal.returns-then-not-is_open-clause-steps
@@ -427,3 +428,44 @@ returns-in-Err-release_roots-clause-damage g c =
 
 pub returns-in-Err-commit-clause-damage : goal.returns-in-Err-commit-clause-damage
 returns-in-Err-commit-clause-damage g c = uncommitted_told (g.H.World.outside c.args.host.now) _ c.args.self.now no_version c.in-Err-commit.fault c.uncommitted.result c.uncommitted.ensures
+
+-- ---- where it writes
+
+pub returns-then-not-is_open-clause-writes : goal.returns-then-not-is_open-clause-writes
+returns-then-not-is_open-clause-writes g c = home_unwritten c.args.self.now (reads_refl (g.H.World.outside c.args.host.now))
+
+pub returns-in-Err-clause-writes : goal.returns-in-Err-clause-writes
+returns-in-Err-clause-writes g c = home_unwritten c.args.self.now c.catalog.ensures.frames.reads
+
+pub returns-in_default-clause-writes : goal.returns-in_default-clause-writes
+returns-in_default-clause-writes g c = home_unwritten c.args.self.now c.catalog.ensures.frames.reads
+
+pub returns-in-Err-release_roots-clause-writes : goal.returns-in-Err-release_roots-clause-writes
+returns-in-Err-release_roots-clause-writes g c = home_unwritten c.args.self.now (reads_trans c.catalog.ensures.frames.reads c.release_roots.ensures.gives.only)
+
+pub returns-then-is_err-clause-writes : goal.returns-then-is_err-clause-writes
+returns-then-is_err-clause-writes g c = home_unwritten c.args.self.now (reads_trans c.catalog.ensures.frames.reads c.release_roots.ensures.gives.only)
+
+pub returns-in-Err-commit-clause-writes : goal.returns-in-Err-commit-clause-writes
+returns-in-Err-commit-clause-writes g c =
+    let s = c.args.self.now in
+    let two = session.the_view c.self-2.inside in
+    let only = c.catalog.ensures.frames in
+    let same = c.self-2.view_is ∙ only.same in
+    let written = if_no_error c.edit.result (sym c.if-is_err.ensures.value) c.edit.ensures.ok in
+    let edited = written ∙ ap (λ (l : List ℕ). numbered_pages two.meta l) c.deref-2.ensures.value in
+    home_written s c.edit.new.self (reads_trans only.reads c.release_roots.ensures.gives.only)
+    (ap (λ (o : Overlays). o.geometry) edited ∙ c.self-2.invariant.meta ∙ ap (λ (t : SessionState). t.geometry) same)
+    (ap (λ (o : Overlays). o.committed) edited ∙ ap (λ (t : SessionState). t.meta.committed) same) c.commit.ensures.writes
+
+pub returns-clause-writes : goal.returns-clause-writes
+returns-clause-writes g c =
+    let s = c.args.self.now in
+    let two = session.the_view c.self-2.inside in
+    let only = c.catalog.ensures.frames in
+    let same = c.self-2.view_is ∙ only.same in
+    let written = if_no_error c.edit.result (sym c.if-is_err.ensures.value) c.edit.ensures.ok in
+    let edited = written ∙ ap (λ (l : List ℕ). numbered_pages two.meta l) c.deref-2.ensures.value in
+    home_written s c.edit.new.self (reads_trans only.reads c.release_roots.ensures.gives.only)
+    (ap (λ (o : Overlays). o.geometry) edited ∙ c.self-2.invariant.meta ∙ ap (λ (t : SessionState). t.geometry) same)
+    (ap (λ (o : Overlays). o.committed) edited ∙ ap (λ (t : SessionState). t.meta.committed) same) c.commit.ensures.writes

@@ -1,4 +1,4 @@
-use Rattle.std.proofs.Common.{◌≡◌, ◌<◌, ap, length, refl, rules, subst, sym, Some, ◌∙◌}
+use Rattle.std.proofs.Common.{◌≡◌, ◌<◌, ℕ, ap, length, refl, rules, subst, sym, Some, ◌∙◌}
 use Rattle.std.proofs.lemmas.Result.{IfErr-weaker}
 use Rattle.session_core.specs.Finding.{IsOutside, stop_at}
 use Rattle.session_core.specs.ScanRows.{AtScan, bytes_next, with_scans}
@@ -9,6 +9,7 @@ use Rattle.session_core.specs.contracts.session.Session as session
 use Rattle.session_core.proofs.Finding.{error_shown, frames_left, frames_to, no_damage, ok_shown, only_reads, over_session, told_err, told_ok}
 use Rattle.std.specs.Prelude.{slice_get}
 use Rattle.open_scans.proofs.Rows.{row_there}
+use Rattle.volume_port.specs.Reading.{OthersStay}
 use Rattle.session_core.proofs.Damage.{scan_told}
 use Rattle.session_core.proofs.session.Session.next_piece.Goals as goal
 
@@ -54,3 +55,10 @@ returns-clause-damage g c =
     let left = frames_to g.D.World.outside c.next.new.blocks.disk.now _ (search rules) (frames_left c.next.ensures.kept.leads) in
     scan_told _ _ _ c.args.index c.next.result c.or_stop.result c.or_stop.ensures over left.only.nothing.disk row.row row.at
     (IfErr-weaker c.next.result _ _ (λ fault is told. is told row.row here) c.next.ensures.fault) (λ none. (c.next.ensures.held row.row here none).1)
+
+pub returns-clause-others : goal.returns-clause-others
+returns-clause-others g c row at =
+    let here : slice_get c.self.inside.scans c.args.index ≡ Some row = ap (λ (t : SessionState). slice_get t.scans c.args.index) c.self.view_is ∙ at in
+    subst (λ (t : SessionState). OthersStay row.group t.groups c.next.new.blocks.groups.now) c.self.view_is
+    (subst (λ (i : ℕ). OthersStay i (session.the_view c.self.inside).groups c.next.new.blocks.groups.now)
+    (c.group_at-group.ensures row here) c.next.ensures.kept.leads.others)
