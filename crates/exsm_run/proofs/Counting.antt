@@ -1,10 +1,10 @@
 -- What a session that was just opened counts.
-use Rattle.std.proofs.Common.{◌≡◌, ◌≢◌, ◌∙◌, ◌⊎◌, ℕ, List, Some, length, inl, inr, refl, sym, ap, subst, IsTrue}
+use Rattle.std.proofs.Common.{◌≡◌, ◌≢◌, ◌∙◌, ◌⊎◌, ℕ, List, length, inl, inr, refl, sym, ap, subst}
 use Rattle.ex_base.specs.declared.geometry.Geometry.{Geometry}
 use Rattle.ex_base.specs.declared.names.Area.TheVariants.{Page, Segment}
 use Rattle.ex_base.specs.declared.names.PageNo.{PageNo}
 use Rattle.ex_base.specs.declared.faults.Seen.{Seen}
-use Rattle.disk_model.specs.Outside.{Outside, IsWorld, Only, ReadsOnly, Rose, WritesNothing}
+use Rattle.disk_model.specs.Outside.{Outside, IsWorld, ReadsOnly, Rose}
 use Rattle.table_model.specs.declared.machine.Machine.{Machine}
 use Rattle.table_model.specs.declared.table.Table.{Table}
 use Rattle.table_model.specs.Machines.{shown}
@@ -12,23 +12,20 @@ use Rattle.table_model.specs.Tables.{objects_of, versions_of}
 use Rattle.session_views.specs.declared.part.Part.{Part}
 use Rattle.session_views.specs.declared.stop.Stop.{Stop}
 use Rattle.session_views.specs.declared.stop.Stop.TheVariants as stop
-use Rattle.session_views.specs.declared.opener.OpenFault.{OpenFault}
-use Rattle.session_views.specs.declared.opener.OpenFault.TheVariants as open_fault
 use Rattle.talks.specs.Opening.{Opened}
 use Rattle.session_core.specs.Meant.{meant}
 use Rattle.session_core.specs.Sessions.{SessionState, held}
 use Rattle.transactions.specs.Summaries.{IsSummary}
 use Rattle.transactions.specs.declared.summary.Summary.{Summary}
-use Rattle.volume_model.specs.Parts.{FirstBad, StandsFor}
+use Rattle.volume_model.specs.Parts.{StandsFor}
 use Rattle.volume_model.specs.Shown.{used_in}
 use Rattle.volume_model.proofs.OneVolume.{one_geometry}
 use Rattle.command_line.specs.declared.status.Status.{Status}
 use Rattle.command_line.specs.declared.status.Status.TheVariants as status
-use Rattle.exsm_run.specs.Check.{IsCount, ReachesUnits, StopsAs, StopsCount, unopened_status}
+use Rattle.volume_commands.specs.Counted.{ReachesUnits}
+use Rattle.volume_commands.specs.Statuses.{StopsCount}
+use Rattle.exsm_run.specs.Check.{IsCount, StopsAs}
 use Rattle.exsm_run.specs.Fresh.{IsFresh}
-use Rattle.exsm_run.specs.Openings.{OpeningPromise}
-use Rattle.exsm_run.specs.Script.{IsOpeningStatus}
-use Rattle.exsm_run.proofs.Ending.{left_alone}
 
 -- The units in use of a session that was just opened are those that the volume reaches.
 reached_units : {w : Outside} {table : Table} {session : SessionState} (opened : Opened meant IsFresh table session w) (s : Summary) → IsSummary opened.view.machine s
@@ -78,42 +75,12 @@ stops_session stop.Disk told before after is disk damaged = subst (λ (x : Statu
 stops_session (stop.Damaged page want got) told before after is disk damaged = subst (λ (x : Status). StopsCount x before after) (sym is) (damaged page want got refl)
 stops_session stop.Down told before after is disk damaged = absurd is
 
-pub unopened_so : (f : OpenFault) → ((part : Part) → f ≡ open_fault.BadVolume part → ⊥) → (unopened_status f ≡ status.DiskFault) ⊎ (unopened_status f ≡ status.Memory)
-unopened_so open_fault.Memory good = inr refl
-unopened_so open_fault.Disk good = inl refl
-unopened_so (open_fault.BadVolume part) good = absurd (good part refl)
-
 pub stopped_so : (s : Stop) (told : Status) → StopsAs s told → (s ≡ stop.Disk) ⊎ (s ≡ stop.Memory) → (told ≡ status.DiskFault) ⊎ (told ≡ status.Memory)
 stopped_so s told is (inl disk) = inl (subst (λ (x : Stop). StopsAs x told) disk is)
 stopped_so s told is (inr memory) = inr (subst (λ (x : Stop). StopsAs x told) memory is)
-
-bad_status : (f : OpenFault) (part : Part) → unopened_status f ≡ status.BadVolume part → f ≡ open_fault.BadVolume part
-bad_status open_fault.Memory part is = absurd (cc)
-bad_status open_fault.Disk part is = absurd (cc)
-bad_status (open_fault.BadVolume p) part is = cc
 
 pub no_bad_session : (s : Stop) (told : Status) (part : Part) → StopsAs s told → told ≡ status.BadVolume part → ⊥
 no_bad_session stop.Memory told part so is = cc
 no_bad_session stop.Disk told part so is = cc
 no_bad_session (stop.Damaged page want got) told part so is = cc
 no_bad_session stop.Down told part so is = so
-
-is_opening : (f : OpenFault) → IsOpeningStatus (unopened_status f)
-is_opening open_fault.Memory = tt
-is_opening open_fault.Disk = tt
-is_opening (open_fault.BadVolume part) = tt
-
--- An opening that fails keeps what openings promise.
-pub unopened_well : {before after : Outside} (f : OpenFault) → IsWorld before
-    → ((part : Part) → f ≡ open_fault.BadVolume part → (image : List ℕ) → before.disk ≡ Some image → FirstBad image part)
-    → ((image : List ℕ) (part : Part) → before.disk ≡ Some image → FirstBad image part → WritesNothing before after)
-    → ((part : Part) → f ≡ open_fault.BadVolume part → WritesNothing before after)
-    → ((part : Part) → f ≡ open_fault.BadVolume part → IsTrue before.honest → (image : List ℕ) → before.disk ≡ Some image → (after.disk ≡ Some image) × Only image after.images)
-    → OpeningPromise before after (unopened_status f)
-unopened_well f world bad left unwritten kept = record {
-  bad = λ part is. bad part (bad_status f part is);
-  unopened = λ image part holds first. is_opening f;
-  left = λ image part holds first. left_alone world (left image part holds first);
-  only = λ part is. left_alone world (unwritten part (bad_status f part is));
-  kept = λ part is image honest holds. kept part (bad_status f part is) honest image holds;
-}

@@ -3,26 +3,29 @@ use Rattle.std.proofs.Common.{◌≡◌, ◌⊎◌, ℕ, List, Option, None, Som
 use Rattle.ex_base.specs.declared.faults.Seen.{Seen}
 use Rattle.ex_base.specs.declared.names.PageNo.{PageNo}
 use Rattle.ex_base.specs.declared.geometry.Geometry.{Geometry}
-use Rattle.disk_model.specs.Outside.{Outside, IsWorld, Rose, WritesNothing}
-use Rattle.disk_model.specs.Runs.{leaves_quiet, leaves_start}
+use Rattle.disk_model.specs.Outside.{Outside, IsWorld, Rose}
 use Rattle.talks.specs.declared.stopped.Stopped.{Stopped}
 use Rattle.talks.specs.declared.stopped.Stopped.TheVariants as stopped
 use Rattle.table_model.specs.declared.table.Table.{Table}
 use Rattle.session_views.specs.declared.part.Part.{Part}
 use Rattle.engines.specs.Keeping.{Conduct, DamagedStep}
-use Rattle.talks.specs.Headline.{RunOn, RunStarts}
+use Rattle.talks.specs.Headline.{HoldsTable, RunOn, RunStarts}
 use Rattle.talks.specs.Passage.{ByDamagedStep}
 use Rattle.runs.specs.Source.{MayComplete}
 use Rattle.session_core.specs.Meant.{meant}
 use Rattle.session_core.specs.Sessions.{SessionState}
 use Rattle.volume_model.proofs.AtMostOne.{one_table}
-use Rattle.talks.specs.Stops.{IsOpeningStop, IsSoundStop}
+use Rattle.talks.specs.Stops.{CausedBy, IsOpeningStop, IsSoundStop}
 use Rattle.command_line.specs.declared.status.Status.{Status}
 use Rattle.command_line.specs.declared.status.Status.TheVariants as status
+use Rattle.volume_commands.specs.Format.{FormatAnswers, MayFormat}
+use Rattle.volume_commands.specs.OnVolume.{HoldsVolume, IsOnVolume}
+use Rattle.volume_commands.specs.Openings.{OpeningPromise}
+use Rattle.volume_commands.specs.Statuses.{IsOpeningStatus}
+use Rattle.volume_commands.proofs.Reasons.{ReadRose, Reason, Tells, tells}
+use Rattle.volume_commands.proofs.Unopened.{left_alone}
+use Rattle.exsm_run.specs.Script.{status_of, MayRun, IsRunStatus}
 use Rattle.exsm_run.specs.Status.{IsRefusal}
-use Rattle.exsm_run.specs.Format.{FormatAnswers, MayFormat}
-use Rattle.exsm_run.specs.Openings.{LeftAlone, OpeningPromise}
-use Rattle.exsm_run.specs.Script.{status_of, IsOnVolume, MayRun, IsOpeningStatus, IsRunStatus}
 
 -- what stops a run on a volume gives one of its statuses
 pub run_status : (most : ℕ) (ending : Option Stopped) → IfSome ending IsSoundStop → IsRunStatus (status_of most ending)
@@ -77,13 +80,6 @@ long_is most max (Some (stopped.BadVolume part)) is = absurd (cc)
 long_is most max (Some (stopped.Damaged page want got)) is = absurd (cc)
 long_is most max (Some stopped.ScriptLong) is = (cc, refl)
 
--- where nothing was written a crash leaves what it could leave before
-pub left_alone : {a b : Outside} → IsWorld a → WritesNothing a b → LeftAlone a b
-left_alone {a} {b} world nothing = record {
-  nothing = nothing;
-  moments = λ honest. leaves_quiet a.images (leaves_start a a.images world (λ d here. here)) honest nothing;
-}
-
 -- what a run says of its disk, by its status
 pub opening_of : {H : Type 0} {C : Conduct SessionState H} {a b : Outside} (most : ℕ) (ending : Option Stopped) → IsWorld a → RunOn meant C a b ending → OpeningPromise a b (status_of most ending)
 opening_of {a} {b} most ending world on = record {
@@ -108,25 +104,32 @@ damaged_of C most (Some (stopped.BadVolume part)) by page want got is = absurd (
 damaged_of C most (Some (stopped.Damaged p w g)) by page want got is = by page want got (cc)
 damaged_of C most (Some stopped.ScriptLong) by page want got is = absurd (cc)
 
--- a run that was stopped is not refused
-pub no_refusal : (most : ℕ) (why : Stopped) → IsRefusal (status_of most (Some why)) → ⊥
-no_refusal most stopped.Script is = is
-no_refusal most stopped.Output is = is
-no_refusal most stopped.Disk is = is
-no_refusal most stopped.Memory is = is
-no_refusal most (stopped.BadVolume part) is = is
-no_refusal most (stopped.Damaged page want got) is = is
-no_refusal most stopped.ScriptLong is = is
+-- why a run was stopped is the reason of its status
+run_reason : (most : ℕ) (a b : Outside) (why : Stopped) → CausedBy why a b → Reason (ReadRose a b) a b (status_of most (Some why))
+run_reason most a b stopped.Script cause = cause
+run_reason most a b stopped.Output cause = cause
+run_reason most a b stopped.Disk cause = cause
+run_reason most a b stopped.Memory cause = tt
+run_reason most a b (stopped.BadVolume part) cause = tt
+run_reason most a b (stopped.Damaged page want got) cause = cause
+run_reason most a b stopped.ScriptLong cause = tt
 
--- so it is not answered as wrong words
+pub run_tells : (most : ℕ) (a b : Outside) {s : Status} (why : Stopped) → s ≡ status_of most (Some why) → CausedBy why a b → Tells (ReadRose a b) a b s
+run_tells most a b why is cause = subst (Tells (ReadRose a b) a b) (sym is) (tells (ReadRose a b) a b (status_of most (Some why)) (run_reason most a b why cause))
+
+-- what is not refused is not answered as wrong words
 pub no_usage : (s : Status) → (IsRefusal s → ⊥) → s ≡ status.Usage → ⊥
 no_usage s never is = never (subst IsRefusal (sym is) tt)
 
 -- ---- a volume stands for one table
 
+-- what holds a volume holds a table, as talks say it
+pub on_table : {entry : Outside} {table : Table} {was : List ℕ} → HoldsVolume entry table was → HoldsTable meant entry table was
+on_table on = record { image = on.image; honest = on.honest; holds = on.holds; stands = on.stands; sent = on.sent }
+
 pub starts_on : {entry : Outside} {table : Table} {was : List ℕ} → IsOnVolume entry table was → RunStarts meant entry table was
 starts_on {entry} {table} {was} volume = record {
-  on = volume.on;
+  on = on_table volume.on;
   settled = volume.settled;
   alone = λ other stood. one_table volume.on.image other table stood volume.on.stands;
 }
@@ -135,7 +138,7 @@ pub completes_on : {most : ℕ} {before after : Outside} → MayRun most before 
 completes_on may = record {
   table = may.table;
   was = may.was;
-  on = may.on;
+  on = on_table may.on;
   script = may.script;
   left = may.left;
   within = may.within;

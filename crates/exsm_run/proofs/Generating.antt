@@ -28,13 +28,15 @@ use Rattle.session_core.specs.Sessions.{SessionState}
 use Rattle.volume_model.specs.Parts.{FirstBad}
 use Rattle.command_line.specs.declared.status.Status.{Status}
 use Rattle.command_line.specs.declared.status.Status.TheVariants as status
-use Rattle.exsm_run.specs.Check.{IsLineStatus}
+use Rattle.volume_commands.specs.OnVolume.{IsOnVolume}
+use Rattle.volume_commands.specs.Statuses.{IsLineStatus}
+use Rattle.volume_commands.proofs.Reasons.{Reason, Tells, tells}
+use Rattle.volume_commands.proofs.SentLines.{SentLine, line_good, line_ends, line_undamaged}
 use Rattle.exsm_run.specs.Fresh.{IsFresh}
-use Rattle.exsm_run.specs.Kept.{volume_steps}
 use Rattle.exsm_run.specs.Generate.{Answered, GenPromise, StandsForOne, StopsUntold, ToldOf}
-use Rattle.exsm_run.specs.Script.{IsOnVolume, status_of}
-use Rattle.exsm_run.proofs.Checking.{SentLine, line_good, line_ends, line_undamaged}
-use Rattle.exsm_run.proofs.Ending.{damaged_of, opening_of, starts_on}
+use Rattle.exsm_run.specs.Kept.{volume_steps}
+use Rattle.exsm_run.specs.Script.{status_of}
+use Rattle.exsm_run.proofs.Ending.{damaged_of, on_table, opening_of, starts_on}
 
 -- ---- how it is stopped
 
@@ -86,6 +88,20 @@ disk_is stopped.Memory is = absurd (cc)
 disk_is (stopped.BadVolume part) is = absurd (cc)
 disk_is (stopped.Damaged page want got) is = absurd (cc)
 disk_is stopped.ScriptLong is = absurd (cc)
+
+gen_reason : (a b : Outside) (why : Stopped) → StopsGen why → CausedBy why a b → Reason ⊥ a b (status_of 0 (Some why))
+gen_reason a b stopped.Script (inl h) cause = h
+gen_reason a b stopped.Script (inr (inl h)) cause = h
+gen_reason a b stopped.Script (inr (inr h)) cause = cc
+gen_reason a b stopped.Output whence cause = cause
+gen_reason a b stopped.Disk whence cause = cause
+gen_reason a b stopped.Memory whence cause = tt
+gen_reason a b (stopped.BadVolume part) whence cause = tt
+gen_reason a b (stopped.Damaged page want got) whence cause = cause
+gen_reason a b stopped.ScriptLong whence cause = tt
+
+pub gen_tells : (a b : Outside) {s : Status} (why : Stopped) → s ≡ status_of 0 (Some why) → StopsGen why → CausedBy why a b → Tells ⊥ a b s
+gen_tells a b why is whence cause = subst (Tells ⊥ a b) (sym is) (tells ⊥ a b (status_of 0 (Some why)) (gen_reason a b why whence cause))
 
 -- ---- what was sent by then
 
@@ -145,8 +161,8 @@ gen_stopped {H} {outside} {a} {b} seed count first talk why world script whence 
   stopped = λ table was on done output. stopped_in seed count first talk why script (headline table was (starts_on on));
   left = ⊎_elim (λ cut. cut.3.left_so) (λ unopened. unopened.1.left) broken;
   moments = λ table was on. stands_moments (Some why) (headline table was (starts_on on));
-  sound = λ table was holds. sound_kind why whence (on.sound table was holds);
-  completes = λ may. line_ends (status_of 0 (Some why)) (sound_kind why whence (on.sound may.table may.was may.on)) (no_output why whence)
+  sound = λ table was holds. sound_kind why whence (on.sound table was (on_table holds));
+  completes = λ may. line_ends (status_of 0 (Some why)) (sound_kind why whence (on.sound may.table may.was (on_table may.on))) (no_output why whence)
       (λ is. may.no_disk_fault (subst (λ (w : Stopped). CausedBy w a b) (disk_is why is) on.caused));
   damaged = λ page want got is. damaged_of (volume_steps outside) 0 (Some why) on.damaged page want got is;
   opening = opening_of 0 (Some why) world on;

@@ -1,13 +1,7 @@
 mod Ending
 mod Idle
-mod Making
 mod Opened
-mod Lines
 mod Counting
 mod Checking
-mod Dumping
-mod Loading
-mod Entries
-mod Packing
 mod Generating
 mod Running

@@ -1,16 +1,14 @@
 -- A session that was opened shows its volume.
-use Rattle.std.proofs.Common.{◌≡◌, ◌∙◌, ⊎_elim, inl, inr, ℕ, List, [], ◌∷◌, map, refl, sym, ap, subst, IsTrue, Bool, Result, Err}
+use Rattle.std.proofs.Common.{◌≡◌, ◌∙◌, ℕ, List, [], ◌∷◌, map, refl, sym, ap, subst, IsTrue, Bool, Result, Err}
 use Rattle.ex_base.specs.declared.geometry.Geometry.{Geometry}
 use Rattle.ex_base.specs.declared.names.Area.TheVariants.{Page, Segment}
-use Rattle.disk_model.specs.Outside.{Outside, Leaves}
-use Rattle.disk_model.specs.Runs.{leaves_wider}
+use Rattle.disk_model.specs.Outside.{Outside}
 use Rattle.buffer_groups.specs.Frames.{Frames}
 use Rattle.op_log.specs.State.{LogState}
 use Rattle.page_alloc.specs.UnitSet.{refs_at, used_at}
 use Rattle.volume_port.specs.declared.state.VolumeState.{VolumeState}
-use Rattle.restart.specs.Opening.{AreOpened, OpenedOn, OpensAs, StandsForSame}
+use Rattle.restart.specs.Opening.{AreOpened, OpenedOn}
 use Rattle.session_views.specs.View.{View}
-use Rattle.session_views.specs.Opening.{StandsOpening}
 use Rattle.talks.specs.Opening.{Opened}
 use Rattle.table_model.specs.declared.table.Table.{Table}
 use Rattle.table_model.specs.declared.machine.Machine.{Machine}
@@ -65,7 +63,3 @@ shows_opened {w} p image table parts honest on stands =
 
 pub err_same : {T E : Type 0} {x y : E} (a b : Result T E) → a ≡ Err x → b ≡ Err y → a ≡ b → x ≡ y
 err_same a b one two same = cc (one, two, same)
-
-pub leaves_opening : {a b : Outside} (image : List ℕ) → Leaves a b (OpensAs a.images image) → Leaves a b (StandsOpening meant a.images image)
-leaves_opening {a} {b} image leaves = leaves_wider (OpensAs a.images image) (StandsOpening meant a.images image) leaves
-    (λ d is. ⊎_elim (λ old. inl old) (λ other. inr (⊎_elim (λ same. inl same) (λ (same : StandsForSame image d). inr (record { table = same.table; was = same.was; stands = same.stands })) other)) is)

@@ -15,13 +15,14 @@ use Rattle.session_core.specs.Meant.{meant}
 use Rattle.session_core.specs.Sessions.{SessionState}
 use Rattle.command_line.specs.declared.status.Status.{Status}
 use Rattle.command_line.specs.declared.status.Status.TheVariants.{Damaged, Done, Memory, ScriptLong}
+use Rattle.volume_commands.specs.OnVolume.{HoldsVolume}
+use Rattle.volume_commands.specs.Openings.{OpeningPromise}
 use Rattle.exsm_run.specs.Clients.{ClientsPromise}
 use Rattle.exsm_run.specs.Fresh.{IsFresh}
 use Rattle.exsm_run.specs.Kept.{volume_steps}
-use Rattle.exsm_run.specs.Openings.{OpeningPromise}
 use Rattle.exsm_run.specs.Promises.{RunPromise}
-use Rattle.exsm_run.specs.Script.{HoldsVolume, IsRunStatus, MayRun, RanSource, status_of}
-use Rattle.exsm_run.proofs.Ending.{completes_on, damaged_of, done_is, long_is, opening_of, run_status, starts_on}
+use Rattle.exsm_run.specs.Script.{IsRunStatus, MayRun, RanSource, status_of}
+use Rattle.exsm_run.proofs.Ending.{completes_on, damaged_of, done_is, long_is, on_table, opening_of, run_status, starts_on}
 
 -- What it promises whichever talk took its lines.
 pub record Ends {H : Type 0} (outside : H → Outside) (most : ℕ) (before after : Outside) (status : Status) : Type 0 where
@@ -37,7 +38,7 @@ pub record Ends {H : Type 0} (outside : H → Outside) (most : ℕ) (before afte
 pub ends_of : {H T : Type 0} {outside : H → Outside} {Fresh : View SessionState → Type 0} {K : Talking T} {begins : T → ℕ → Type 0} {most : ℕ} {before after : Outside} {status : Status} → IsWorld before
     → RanSource meant (volume_steps outside) Fresh K begins most before after status → Ends outside most before after status
 ends_of {outside = outside} {most = most} {before = before} {after = after} world ran = record {
-  sound = λ table was on. subst IsRunStatus (sym ran.is) (run_status most ran.ending (ran.run.on.sound table was on));
+  sound = λ table was on. subst IsRunStatus (sym ran.is) (run_status most ran.ending (ran.run.on.sound table was (on_table on)));
   completes = λ may. ⊎_elim (λ none. inl (ran.is ∙ ap (status_of most) none)) (λ memory. inr (ran.is ∙ ap (status_of most) memory)) (ran.run.completes (completes_on may));
   reads_all = λ done. ran.run.reads.reads_all (done_is most ran.ending (sym ran.is ∙ done));
   within = λ done. ran.run.reads.within (done_is most ran.ending (sym ran.is ∙ done));

@@ -1,23 +1,20 @@
 -- What `check` sends and leaves.
-use Rattle.std.specs.Prelude.{◌≡◌, ◌≢◌, ◌⊎◌, ◌<◌, ◌↔◌, ℕ, Bool, true, IsTrue, Some, List, [], ◌∷◌, ◌++◌, length, take, codes, decimal, Contains, ⊤}
-use Rattle.disk_model.specs.Outside.{Outside, Leaves, Rose}
-use Rattle.ex_base.specs.declared.names.Area.TheVariants.{Page, Segment}
+use Rattle.std.specs.Prelude.{◌≡◌, ◌≢◌, ◌⊎◌, ◌<◌, ℕ, IsTrue, Some, List, [], ◌∷◌, ◌++◌, length, take, codes, decimal}
+use Rattle.disk_model.specs.Outside.{Outside, Leaves}
 use Rattle.table_model.specs.declared.table.Table.{Table}
 use Rattle.table_model.specs.Tables.{objects_of, versions_of}
 use Rattle.session_views.specs.declared.stop.Stop.{Stop}
 use Rattle.session_views.specs.declared.stop.Stop.TheVariants as stop
-use Rattle.session_views.specs.declared.opener.OpenFault.{OpenFault}
-use Rattle.session_views.specs.declared.opener.OpenFault.TheVariants as open_fault
 use Rattle.session_views.specs.Opening.{StandsOpening}
 use Rattle.transactions.specs.declared.summary.Summary.{Summary}
 use Rattle.session_core.specs.Meant.{meant}
-use Rattle.volume_model.specs.Parts.{Decodes, StandsFor}
-use Rattle.volume_model.specs.Shown.{used_in}
-use Rattle.volume_model.specs.Volume.{Decoded, reach_of, units_of}
+use Rattle.volume_model.specs.Parts.{StandsFor}
 use Rattle.command_line.specs.declared.status.Status.{Status}
-use Rattle.command_line.specs.declared.status.Status.TheVariants.{Done, Usage, ScriptFault, OutputFault, DiskFault, BadVolume, Memory, Damaged, AlreadyVolume, TooSmall, ScriptLong, NotEmpty, BadDump, Misfit, NoRoom, NoPages}
-use Rattle.exsm_run.specs.Openings.{OpeningPromise}
-use Rattle.exsm_run.specs.Script.{HoldsVolume, IsOnVolume}
+use Rattle.command_line.specs.declared.status.Status.TheVariants.{Done, OutputFault, DiskFault, Memory, Damaged}
+use Rattle.volume_commands.specs.Counted.{HoldsCounted}
+use Rattle.volume_commands.specs.OnVolume.{HoldsVolume, IsOnVolume, MaySend}
+use Rattle.volume_commands.specs.Openings.{OpeningPromise}
+use Rattle.volume_commands.specs.Statuses.{IsLineStatus}
 
 -- ---- the line
 
@@ -30,49 +27,7 @@ counts_line last files objects versions pages segs =
 abbrev pub check_line : Table → ℕ → ℕ → List ℕ
 check_line t pages segs = counts_line t.last (length t.files) (length (objects_of t)) (length (versions_of t)) pages segs
 
--- The volume of the image reaches so many units of the page area and of the segment area.
-pub record ReachesUnits (image : List ℕ) (pages segs : ℕ) : Type 0 where
-  pub decoded : Decoded
-  pub parts : Decodes image decoded
-  -- which units it reaches, each of them
-  pub used : ℕ → Bool
-  pub each : (unit : ℕ) → (used unit ≡ true) ↔ Contains (reach_of (units_of decoded image) decoded.volume) unit
-  pub pages_are : pages ≡ used_in decoded.geometry used Page
-  pub segs_are : segs ≡ used_in decoded.geometry used Segment
-
--- The disk holds a volume of the table, which reaches so many units.
-pub record HoldsCounted (w : Outside) (table : Table) (pages segs : ℕ) : Type 0 where
-  pub image : List ℕ
-  pub holds : w.disk ≡ Some image
-  pub stands : StandsFor image table
-  pub reaches : ReachesUnits image pages segs
-
 -- ---- statuses
-
--- the statuses of a command that sends one line, on a volume
-abbrev pub IsLineStatus : Status → Type 0
-IsLineStatus Done = ⊤
-IsLineStatus Usage = ⊥
-IsLineStatus ScriptFault = ⊥
-IsLineStatus OutputFault = ⊤
-IsLineStatus DiskFault = ⊤
-IsLineStatus (BadVolume part) = ⊥
-IsLineStatus Memory = ⊤
-IsLineStatus (Damaged page want got) = ⊥
-IsLineStatus AlreadyVolume = ⊥
-IsLineStatus (TooSmall have need) = ⊥
-IsLineStatus (ScriptLong max) = ⊥
-IsLineStatus NotEmpty = ⊥
-IsLineStatus BadDump = ⊥
-IsLineStatus (Misfit field dump volume) = ⊥
-IsLineStatus (NoRoom area need free) = ⊥
-IsLineStatus (NoPages need free) = ⊥
-
--- the status where a volume wasn't opened
-abbrev pub unopened_status : OpenFault → Status
-unopened_status open_fault.Memory = Memory
-unopened_status open_fault.Disk = DiskFault
-unopened_status (open_fault.BadVolume part) = BadVolume part
 
 -- The status is that of a session, up until then, that stopped so.
 abbrev pub StopsAs : Stop → Status → Type 0
@@ -80,25 +35,6 @@ StopsAs stop.Memory status = status ≡ Memory
 StopsAs stop.Disk status = status ≡ DiskFault
 StopsAs (stop.Damaged page want got) status = status ≡ Damaged page want got
 StopsAs stop.Down status = ⊥
-
--- why no numbers are there: a fault of the disk rose in its count, damage is of two things that differ
-abbrev pub StopsCount : Status → Outside → Outside → Type 0
-StopsCount Done before after = ⊥
-StopsCount Usage before after = ⊥
-StopsCount ScriptFault before after = ⊥
-StopsCount OutputFault before after = ⊥
-StopsCount DiskFault before after = Rose before.disk_faults after.disk_faults
-StopsCount (BadVolume part) before after = ⊤
-StopsCount Memory before after = ⊤
-StopsCount (Damaged page want got) before after = want ≢ got
-StopsCount AlreadyVolume before after = ⊥
-StopsCount (TooSmall have need) before after = ⊥
-StopsCount (ScriptLong max) before after = ⊥
-StopsCount NotEmpty before after = ⊥
-StopsCount BadDump before after = ⊥
-StopsCount (Misfit field dump volume) before after = ⊥
-StopsCount (NoRoom area need free) before after = ⊥
-StopsCount (NoPages need free) before after = ⊥
 
 -- The summary is of the table that the disk holds and of the units that it reaches, whatever a crash now leaves.
 pub record IsCount (w : Outside) (table : Table) (s : Summary) : Type 0 where
@@ -108,14 +44,6 @@ pub record IsCount (w : Outside) (table : Table) (s : Summary) : Type 0 where
   pub files : s.files ≡ length table.files
   pub objects : s.objects ≡ length (objects_of table)
   pub versions : s.versions ≡ length (versions_of table)
-
--- What a command that sends one line needs to send it: a volume, and no fault of the disk or of the output.
-pub record MaySend (before after : Outside) : Type 0 where
-  pub table : Table
-  pub was : List ℕ
-  pub on : HoldsVolume before table was
-  pub no_output_fault : Rose before.write_faults after.write_faults → ⊥
-  pub no_disk_fault : Rose before.disk_faults after.disk_faults → ⊥
 
 -- ---- the promise
 

@@ -10,10 +10,11 @@ use Rattle.clients.specs.Headline.{Served}
 use Rattle.session_core.specs.Meant.{meant}
 use Rattle.command_line.specs.declared.status.Status.{Status}
 use Rattle.command_line.specs.declared.status.Status.TheVariants.{Damaged, Done, Memory, ScriptLong}
+use Rattle.volume_commands.specs.OnVolume.{HoldsVolume, IsOnVolume}
+use Rattle.volume_commands.specs.Openings.{OpeningPromise}
 use Rattle.exsm_run.specs.Fresh.{IsFresh}
 use Rattle.exsm_run.specs.Kept.{volume_steps}
-use Rattle.exsm_run.specs.Openings.{OpeningPromise}
-use Rattle.exsm_run.specs.Script.{HoldsVolume, IsOnVolume, MayRun, IsRunStatus, status_of}
+use Rattle.exsm_run.specs.Script.{MayRun, IsRunStatus, status_of}
 
 -- The serving of a schedule of at most so many bytes ended with this status, and this is what it did.
 pub record ServedAs {H : Type 0} (outside : H → Outside) (most : ℕ) (table : Table) (was : List ℕ) (before after : Outside) (status : Status) : Type 0 where

@@ -20,11 +20,12 @@ use Rattle.session_core.specs.Sessions.{SessionState}
 use Rattle.volume_model.specs.Parts.{StandsFor}
 use Rattle.command_line.specs.declared.status.Status.{Status}
 use Rattle.command_line.specs.declared.status.Status.TheVariants.{Damaged, Done, OutputFault, Memory}
-use Rattle.exsm_run.specs.Check.{IsLineStatus, MaySend}
+use Rattle.volume_commands.specs.OnVolume.{MaySend, HoldsVolume, IsOnVolume}
+use Rattle.volume_commands.specs.Openings.{OpeningPromise}
+use Rattle.volume_commands.specs.Statuses.{IsLineStatus}
 use Rattle.exsm_run.specs.Fresh.{IsFresh}
 use Rattle.exsm_run.specs.Kept.{volume_steps}
-use Rattle.exsm_run.specs.Openings.{OpeningPromise}
-use Rattle.exsm_run.specs.Script.{HoldsVolume, IsOnVolume, status_of}
+use Rattle.exsm_run.specs.Script.{status_of}
 
 -- The volume was opened, and then lines were answered so: each reply is the machine's, with the volume's pick, each step kept what steps keep, and after it
 -- there is a view that shows.

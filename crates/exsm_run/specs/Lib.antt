@@ -1,14 +1,8 @@
 pub mod Status
-pub mod EmptyVolume
-pub mod Format
 pub mod Fresh
 pub mod Kept
 pub mod Script
-pub mod Openings
 pub mod Check
 pub mod Clients
 pub mod Generate
-pub mod Dump
-pub mod Load
-pub mod Pack
 pub mod Promises

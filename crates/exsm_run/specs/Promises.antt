@@ -12,18 +12,19 @@ use Rattle.command_line.specs.declared.status.Status.{Status}
 use Rattle.command_line.specs.declared.status.Status.TheVariants.{Damaged, Done, Memory, ScriptLong}
 use Rattle.command_words.specs.declared.wish.Wish.{Wish}
 use Rattle.command_words.specs.declared.wish.Wish.TheVariants.{Format, Run, Check, Gen, Clients, Dump, Load, Pack}
+use Rattle.volume_commands.specs.Dump.{DumpPromise}
+use Rattle.volume_commands.specs.EmptyVolume.{HasMagic}
+use Rattle.volume_commands.specs.Format.{FormatAnswers, FormatSends, IsFormatted, IsFormatMoment, MayFormat, WritesAlone}
+use Rattle.volume_commands.specs.Load.{LoadPromise}
+use Rattle.volume_commands.specs.OnVolume.{HoldsVolume, IsOnVolume}
+use Rattle.volume_commands.specs.Openings.{OpeningPromise}
+use Rattle.volume_commands.specs.Pack.{PackPromise}
 use Rattle.exsm_run.specs.Check.{CheckPromise}
 use Rattle.exsm_run.specs.Clients.{ClientsPromise}
-use Rattle.exsm_run.specs.Dump.{DumpPromise}
-use Rattle.exsm_run.specs.Generate.{GenPromise}
-use Rattle.exsm_run.specs.Load.{LoadPromise}
-use Rattle.exsm_run.specs.Pack.{PackPromise}
-use Rattle.exsm_run.specs.EmptyVolume.{HasMagic}
-use Rattle.exsm_run.specs.Format.{FormatAnswers, FormatSends, IsFormatted, IsFormatMoment, MayFormat, WritesAlone}
 use Rattle.exsm_run.specs.Fresh.{IsFresh}
+use Rattle.exsm_run.specs.Generate.{GenPromise}
 use Rattle.exsm_run.specs.Kept.{volume_steps}
-use Rattle.exsm_run.specs.Openings.{OpeningPromise}
-use Rattle.exsm_run.specs.Script.{Ran, HoldsVolume, IsOnVolume, MayRun, IsRunStatus}
+use Rattle.exsm_run.specs.Script.{Ran, MayRun, IsRunStatus}
 
 -- What `format` promises.
 pub record FormatPromise (g : Geometry) (before after : Outside) (status : Status) : Type 0 where

@@ -1,18 +1,17 @@
 -- How a run of a script ends.
 use Rattle.std.specs.Prelude.{◌≡◌, ◌≤◌, ℕ, List, length, Option, Some, None, ⊤}
-use Rattle.disk_model.specs.Outside.{Outside, Only, Rose}
+use Rattle.disk_model.specs.Outside.{Outside, Rose}
 use Rattle.table_model.specs.declared.table.Table.{Table}
 use Rattle.session_views.specs.View.{View, Meaning}
 use Rattle.engines.specs.Keeping.{Conduct}
-use Rattle.talks.specs.Headline.{HoldsTable}
 use Rattle.talks.specs.declared.stopped.Stopped.{Stopped}
 use Rattle.talks.specs.declared.stopped.Stopped.TheVariants as stopped
 use Rattle.talks.specs.Talking.{Talking}
 use Rattle.runs.specs.Headline.{Headline}
 use Rattle.runs.specs.Source.{RunOfSource}
-use Rattle.session_core.specs.Meant.{meant}
 use Rattle.command_line.specs.declared.status.Status.{Status}
 use Rattle.command_line.specs.declared.status.Status.TheVariants.{Done, Usage, ScriptFault, OutputFault, DiskFault, BadVolume, Memory, Damaged, AlreadyVolume, TooSmall, ScriptLong, NotEmpty, BadDump, Misfit, NoRoom, NoPages}
+use Rattle.volume_commands.specs.OnVolume.{HoldsVolume}
 
 -- the status of a run that ended so, where at most so many bytes of a script count: at the end of its script (None), or by a stop
 abbrev pub status_of : ℕ → Option Stopped → Status
@@ -37,25 +36,6 @@ pub record RanSource {S H T : Type 0} (M : Meaning S) (C : Conduct S H) (Fresh :
   pub is : status ≡ status_of most ending
   pub run : RunOfSource M C Fresh K begins most before after ending
 
--- the statuses of a run that took no line: the disk holds no volume, or could not be read, or no memory was there
-abbrev pub IsOpeningStatus : Status → Type 0
-IsOpeningStatus Done = ⊥
-IsOpeningStatus Usage = ⊥
-IsOpeningStatus ScriptFault = ⊥
-IsOpeningStatus OutputFault = ⊥
-IsOpeningStatus DiskFault = ⊤
-IsOpeningStatus (BadVolume part) = ⊤
-IsOpeningStatus Memory = ⊤
-IsOpeningStatus (Damaged page want got) = ⊥
-IsOpeningStatus AlreadyVolume = ⊥
-IsOpeningStatus (TooSmall have need) = ⊥
-IsOpeningStatus (ScriptLong max) = ⊥
-IsOpeningStatus NotEmpty = ⊥
-IsOpeningStatus BadDump = ⊥
-IsOpeningStatus (Misfit field dump volume) = ⊥
-IsOpeningStatus (NoRoom area need free) = ⊥
-IsOpeningStatus (NoPages need free) = ⊥
-
 -- the statuses of a run on a volume
 abbrev pub IsRunStatus : Status → Type 0
 IsRunStatus Done = ⊤
@@ -74,15 +54,6 @@ IsRunStatus BadDump = ⊥
 IsRunStatus (Misfit field dump volume) = ⊥
 IsRunStatus (NoRoom area need free) = ⊥
 IsRunStatus (NoPages need free) = ⊥
-
--- An honest disk holds an image of this table, and the sink tells what it was sent.
-abbrev pub HoldsVolume : Outside → Table → List ℕ → Type 0
-HoldsVolume entry table was = HoldsTable meant entry table was
-
--- The premises of the headline: besides nothing is pending.
-pub record IsOnVolume (entry : Outside) (table : Table) (was : List ℕ) : Type 0 where
-  pub on : HoldsVolume entry table was
-  pub settled : Only on.image entry.images
 
 -- What a run needs to reach the end of its script: a volume, a script that isn't too long, and no fault of the outside.
 pub record MayRun (most : ℕ) (before after : Outside) : Type 0 where

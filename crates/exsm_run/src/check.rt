@@ -7,12 +7,12 @@ ghost use Rattle.table_model.specs.declared.table.Table.{Table};
 ghost use Rattle.session_views.specs.Opening.{StandsOpening};
 ghost use Rattle.session_core.specs.Meant.{meant};
 ghost use Rattle.volume_model.specs.Parts.{StandsFor};
-ghost use Rattle.exsm_run.specs.Check.{CheckPromise, IsCount, StopsAs, StopsCount, counts_line};
-ghost use Rattle.exsm_run.specs.Openings.{OpeningPromise};
-ghost use Rattle.exsm_run.specs.Script.{HoldsVolume};
+ghost use Rattle.volume_commands.specs.OnVolume.{HoldsVolume};
+ghost use Rattle.volume_commands.specs.Openings.{OpeningPromise};
+ghost use Rattle.volume_commands.specs.Statuses.{StopsCount};
+ghost use Rattle.exsm_run.specs.Check.{CheckPromise, IsCount, StopsAs, counts_line};
 ghost use Rattle.exsm_run.specs.Status.{IsRefusal};
 
-use crate::opening::status_unopened;
 use crate::session::VolumeSession;
 use crate::status::Status;
 use disk_model::{Host, send_all};
@@ -20,6 +20,7 @@ use session_views::Stop;
 use std::alloc::{AllocError, Global};
 use talks::Opener;
 use transactions::Summary;
+use volume_commands::status_unopened;
 
 // The status where a session that was up stopped.
 fn status_stopped(stop: Stop) -> Status

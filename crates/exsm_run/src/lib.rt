@@ -2,12 +2,7 @@
 #![tactic(auto)]
 
 mod check;
-mod dump;
-mod format;
 mod generate;
-mod load;
-mod opening;
-mod pack;
 mod program;
 mod script;
 mod session;
@@ -15,8 +10,8 @@ mod status;
 mod top_call;
 
 pub use command_words::{NamedFile, Wish, file_of, wish_of};
-pub use format::format as make_volume;
 pub use program::{RunEnding, run_program, run_words};
 pub use session::VolumeSession;
 pub use status::Status;
 pub use top_call::run;
+pub use volume_commands::make_volume;

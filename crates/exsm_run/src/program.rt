@@ -15,7 +15,9 @@ use std::{env, io};
 /// How a command line ended, and the system's reason where a call failed.
 #[derive(Clone, Copy)]
 pub struct RunEnding {
+    /// Whether all was done, or why not.
     pub status: Status,
+    /// The system's reason, where a call of the system failed.
     pub cause: Option<io::Error>,
 }
 

@@ -4,8 +4,8 @@ ghost use Rattle.disk_model.specs.Outside.{Rose, Goes};
 ghost use Rattle.engines.specs.Keeping.{conduct};
 ghost use Rattle.ex_base.specs.declared.names.PageNo.{PageNo};
 ghost use Rattle.ex_base.specs.declared.faults.Seen.{Seen};
-ghost use Rattle.exsm_run.specs.Status.{IsRefusal};
 ghost use Rattle.exsm_run.specs.Script.{status_of, RanSource};
+ghost use Rattle.exsm_run.specs.Status.{IsRefusal};
 
 use crate::status::Status;
 use disk_model::Host;

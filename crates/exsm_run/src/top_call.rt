@@ -8,11 +8,7 @@ ghost use Rattle.exsm_run.specs.Promises.{Promise};
 ghost use Rattle.exsm_run.specs.Status.{IsRefusal};
 
 use crate::check::checked;
-use crate::dump::dumped;
-use crate::format::format;
 use crate::generate::generate;
-use crate::load::loaded;
-use crate::pack::packed;
 use crate::script::run_script;
 use crate::session::VolumeSession;
 use crate::status::Status;
@@ -21,6 +17,7 @@ use command_words::{Wish, wish_of};
 use disk_model::Host;
 use runs::Script;
 use std::alloc::Global;
+use volume_commands::{dumped, loaded, make_volume, packed};
 
 /// Does on the host what the words of a command line ask for, and says how it ended.
 pub fn run<H: Host>(alloc: Global, words: &[String], host: &mut H) -> Status
@@ -81,7 +78,7 @@ fn fulfil<H: Host>(alloc: Global, host: &mut H, wish: Wish) -> Status
     ensures promise { Promise H.outside wish (H.outside host.old) (H.outside host.new) result }
 {
     match wish {
-        Wish::Format(geometry) => format(alloc, host, &geometry),
+        Wish::Format(geometry) => make_volume(alloc, host, &geometry),
         Wish::Run { most } => run_script::<VolumeSession, Script, H>(alloc, host, most),
         Wish::Check => checked(alloc, host),
         Wish::Gen { seed, count } => generate(alloc, host, seed, count),

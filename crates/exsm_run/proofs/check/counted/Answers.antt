@@ -1,12 +1,14 @@
 use Rattle.std.proofs.Common.{◌≡◌, ◌⊎◌, ◌∙◌, refl, sym, ap, subst, arith, Err, true≢false}
-use Rattle.disk_model.specs.Runs.{honest_on, leaves_quiet}
+use Rattle.disk_model.specs.Runs.{honest_on, leaves_quiet, disk_trans}
 use Rattle.session_views.specs.Opening.{StandsOpening}
 use Rattle.session_core.specs.Meant.{meant}
 use Rattle.command_line.specs.declared.status.Status.{Status}
 use Rattle.command_line.specs.declared.status.Status.TheVariants as status
-use Rattle.exsm_run.specs.Openings.{OpeningPromise}
-use Rattle.exsm_run.proofs.Counting.{count_of, stops_session, unopened_so, stopped_so, no_bad_session, unopened_well}
-use Rattle.exsm_run.proofs.Lines.{opened_well}
+use Rattle.volume_commands.specs.Openings.{OpeningPromise}
+use Rattle.volume_commands.proofs.Lines.{opened_well}
+use Rattle.volume_commands.proofs.Unopened.{unopened_so, unopened_well, unopened_stops}
+use Rattle.exsm_run.proofs.Counting.{count_of, stops_session, stopped_so, no_bad_session}
+use Rattle.volume_commands.specs.Statuses.{StopsCount}
 use Rattle.exsm_run.proofs.check.counted.Goals as goal
 
 pub returns-in-Err-clause-counts : goal.returns-in-Err-clause-counts
@@ -52,3 +54,36 @@ returns-clause-opening g c =
 
 pub status_stopped-requires : goal.status_stopped-requires
 status_stopped-requires g c is = true≢false (sym (c.in-Err-summary.ensures.was_down (ap (λ s. Err s) is)) ∙ c.in-Ok.ensures.up)
+
+-- ---- what else is promised
+
+pub returns-in-Err-clause-only : goal.returns-in-Err-clause-only
+returns-in-Err-clause-only g c = c.open.ensures.only
+
+pub returns-in-Err-clause-stops : goal.returns-in-Err-clause-stops
+returns-in-Err-clause-stops g c =
+    subst (λ (s : Status). StopsCount s (g.H.World.outside c.args.host.now) (g.H.World.outside c.open.new.host)) (sym c.status_unopened.ensures) (unopened_stops (g.H.World.outside c.args.host.now) (g.H.World.outside c.open.new.host) c.in-Err.fault (λ is. c.in-Err.ensures.disk (ap (λ f. Err f) is)))
+
+pub returns-in-Err-clause-any_moment : goal.returns-in-Err-clause-any_moment
+returns-in-Err-clause-any_moment g c = c.open.ensures.any_moment
+
+pub returns-in-Err-clause-opened : goal.returns-in-Err-clause-opened
+returns-in-Err-clause-opened g c = tt
+
+pub returns-in-Ok-summary-clause-only : goal.returns-in-Ok-summary-clause-only
+returns-in-Ok-summary-clause-only g c = disk_trans c.open.ensures.only c.summary.ensures.only.nothing.only
+
+pub returns-in-Ok-summary-clause-stops : goal.returns-in-Ok-summary-clause-stops
+returns-in-Ok-summary-clause-stops g c = tt
+
+pub returns-in-Ok-summary-clause-opened : goal.returns-in-Ok-summary-clause-opened
+returns-in-Ok-summary-clause-opened g c = c.in-Ok.ensures.opened
+
+pub returns-in-Ok-summary-clause-opening : goal.returns-in-Ok-summary-clause-opening
+returns-in-Ok-summary-clause-opening g c = tt
+
+pub returns-clause-only : goal.returns-clause-only
+returns-clause-only g c = disk_trans c.open.ensures.only c.summary.ensures.only.nothing.only
+
+pub returns-clause-opened : goal.returns-clause-opened
+returns-clause-opened g c = tt

@@ -24,3 +24,23 @@ returns-clause-room g c =
       ap (λ (s : SessionState). volume_bytes s.geometry) c.summarize.ensures.frames.same,
       c.summarize.ensures.only.nothing.only.goes.size,
     )
+
+-- ---- what else is promised
+
+pub returns-clause-only : goal.returns-clause-only
+returns-clause-only g c = c.summarize.ensures.only
+
+pub returns-clause-disk : goal.returns-clause-disk
+returns-clause-disk g c is = c.summarize.ensures.disk is
+
+pub returns-clause-damaged : goal.returns-clause-damaged
+returns-clause-damaged g c page want got is = c.summarize.ensures.damaged page want got is
+
+pub returns-clause-sums : goal.returns-clause-sums
+returns-clause-sums g c before same shows = c.summarize.ensures.sums before (same ∙ sym c.self.view_is) shows
+
+pub returns-clause-shows : goal.returns-clause-shows
+returns-clause-shows g c before same shows = c.summarize.ensures.shows before (same ∙ sym c.self.view_is) shows
+
+pub returns-clause-was_down : goal.returns-clause-was_down
+returns-clause-was_down g c is = sym (ap (λ (s : SessionState). s.down) c.self.view_is) ∙ c.summarize.ensures.was_down is

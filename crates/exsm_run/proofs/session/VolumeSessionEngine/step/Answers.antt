@@ -1,4 +1,4 @@
-use Rattle.std.proofs.Common.{◌∙◌, ap, sym, subst, arith}
+use Rattle.std.proofs.Common.{◌∙◌, ap, sym, subst, arith, ◌≤◌, true≢false}
 use Rattle.ex_base.specs.Sizes.{volume_bytes}
 use Rattle.ex_base.specs.declared.geometry.Geometry.{Geometry}
 use Rattle.table_model.specs.Requests.{request_of}
@@ -46,3 +46,39 @@ returns-clause-kept g c =
       goes_down = promise.goes_down;
       stays_up = promise.stays_up;
     })
+
+-- ---- what else is promised
+
+pub returns-clause-only : goal.returns-clause-only
+returns-clause-only g c = c.step.ensures.only
+
+pub returns-clause-disk : goal.returns-clause-disk
+returns-clause-disk g c is = c.step.ensures.disk is
+
+pub returns-clause-damaged : goal.returns-clause-damaged
+returns-clause-damaged g c page want got is = c.step.ensures.damaged page want got is
+
+pub returns-clause-stepped : goal.returns-clause-stepped
+returns-clause-stepped g c before same shows = c.step.ensures.stepped before (same ∙ sym c.self.view_is) shows
+
+pub returns-clause-any_moment : goal.returns-clause-any_moment
+returns-clause-any_moment g c before same shows = c.step.ensures.any_moment before (same ∙ sym c.self.view_is) shows
+
+pub returns-clause-takes_none : goal.returns-clause-takes_none
+returns-clause-takes_none g c is memory = c.step.ensures.takes_none is memory
+
+pub returns-clause-unwritten : goal.returns-clause-unwritten
+returns-clause-unwritten g c is memory = (c.step.ensures.unwritten is memory).0
+
+pub returns-clause-was_down : goal.returns-clause-was_down
+returns-clause-was_down g c is up = true≢false (sym (c.step.ensures.was_down is) ∙ ap (λ (s : SessionState). s.down) c.self.view_is ∙ up)
+
+pub returns-clause-stays_up : goal.returns-clause-stays_up
+returns-clause-stays_up g c = c.step.ensures.stays_up
+
+pub step-requires-clause-form : goal.step-requires-clause-form
+step-requires-clause-form g c = c.requires.form
+
+pub step-requires-clause-room : goal.step-requires-clause-room
+step-requires-clause-room g c =
+    subst (λ (s : SessionState). volume_bytes s.geometry ≤ (g.H.World.outside c.args.host.now).size) (sym c.self.view_is) c.requires.room

@@ -7,7 +7,8 @@ use Rattle.talks.specs.Opening.{Opened}
 use Rattle.exsm_run.specs.Fresh.{IsFresh}
 use Rattle.session_core.specs.Meant.{meant}
 use Rattle.session_core.specs.Sessions.{SessionState}
-use Rattle.exsm_run.proofs.Opened.{err_same, shows_opened, leaves_opening}
+use Rattle.exsm_run.proofs.Opened.{err_same, shows_opened}
+use Rattle.volume_commands.proofs.OpeningLeaves.{leaves_opening}
 use Rattle.exsm_run.proofs.session.VolumeSessionOpener.open.Goals as goal
 
 pub returns-in-Err-clause-bad : goal.returns-in-Err-clause-bad
@@ -34,4 +35,5 @@ pub make-requires-clause-in_use : goal.make-requires-clause-in_use
 make-requires-clause-in_use g c = c.in-Ok.ensures.parts.fresh.reached.in_use
 
 pub returns-in-Ok-clause-room : goal.returns-in-Ok-clause-room
-returns-in-Ok-clause-room g c = subst (λ (s : SessionState). volume_bytes s.geometry ≤ (g.H.World.outside c.open_volume.new.disk).size) (sym c.make.ensures) c.in-Ok.ensures.room
+returns-in-Ok-clause-room g c =
+    subst (λ (s : SessionState). volume_bytes s.geometry ≤ (g.H.World.outside c.open_volume.new.disk).size) (sym c.make.ensures) c.in-Ok.ensures.room

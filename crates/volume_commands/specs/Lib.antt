@@ -1,0 +1,9 @@
+pub mod Statuses
+pub mod OnVolume
+pub mod Counted
+pub mod Openings
+pub mod EmptyVolume
+pub mod Format
+pub mod Dump
+pub mod Load
+pub mod Pack

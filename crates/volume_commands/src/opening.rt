@@ -1,0 +1,62 @@
+//! The opening of a volume for a command that steps no lines.
+ghost use Rattle.std.specs.Prelude.{◌≡◌, ◌≤◌, ◌⊎◌, ℕ, List, Some, IsTrue, OnOk, IfOk, IfErr, MatchResult};
+ghost use Rattle.ex_base.specs.Sizes.{volume_bytes};
+ghost use Rattle.disk_model.specs.Outside.{DiskOnly, Leaves};
+ghost use Rattle.table_model.specs.declared.table.Table.{Table};
+ghost use Rattle.session_views.specs.Opening.{StandsOpening};
+ghost use Rattle.session_core.specs.Meant.{meant};
+ghost use Rattle.volume_model.specs.Parts.{StandsFor};
+ghost use Rattle.restart.specs.Opening.{AreOpened, HoldsAs, RestsAs};
+ghost use Rattle.volume_commands.specs.OnVolume.{HoldsVolume};
+ghost use Rattle.volume_commands.specs.Openings.{OpeningPromise, RestsWith};
+ghost use Rattle.volume_commands.specs.Statuses.{StopsCount, unopened_status};
+
+use command_line::Status;
+use disk_model::Host;
+use restart::open_volume;
+use session_views::OpenFault;
+use std::alloc::Global;
+use volume_port::VolumeState;
+
+/// The status where a volume wasn't opened.
+pub fn status_unopened(fault: OpenFault) -> Status
+    ensures { result ≡ unopened_status fault }
+{
+    match fault {
+        OpenFault::Memory => Status::Memory,
+        OpenFault::Disk => Status::DiskFault,
+        OpenFault::BadVolume { part } => Status::BadVolume { part },
+    }
+}
+
+/// Opens the volume on the disk, which tests it whole, and answers its state, in which nothing runs: no record counts and no page has an image.
+pub(crate) fn opened<H: Host>(alloc: Global, host: &mut H) -> Result<VolumeState, Status>
+    ensures only { DiskOnly (H.outside host.old) (H.outside host.new) }
+    ensures parts { IfOk result AreOpened }
+    ensures room { IfOk result (λ volume. volume_bytes volume.geometry
+        ≤ (H.outside host.new).size) }
+    ensures stops { IfErr result
+        (λ status. StopsCount status (H.outside host.old) (H.outside host.new)) }
+
+    // A volume is at rest then, with its table, but for a fault of the disk and want of memory.
+    ensures rests { (table : Table) (was : List ℕ) → HoldsVolume (H.outside host.old) table was
+        → MatchResult result (RestsWith table (H.outside host.new))
+        (λ status. (status ≡ Status.DiskFault) ⊎ (status ≡ Status.Memory)) }
+    ensures same { IfOk result (λ volume. (image : List ℕ) → IsTrue (H.outside host.old).honest
+        → (H.outside host.old).disk ≡ Some image → RestsAs image (H.outside host.new) volume) }
+    ensures holds { (image : List ℕ) → IsTrue (H.outside host.old).honest
+        → (H.outside host.old).disk ≡ Some image → HoldsAs image (H.outside host.new) }
+    ensures stood { OnOk result ((image : List ℕ) → (H.outside host.old).disk ≡ Some image
+        → (table : Table) × StandsFor image table) }
+    ensures any_moment { (image : List ℕ) → IsTrue (H.outside host.old).honest
+        → (H.outside host.old).disk ≡ Some image
+        → Leaves (H.outside host.old) (H.outside host.new) (StandsOpening meant
+        (H.outside host.old).images image) }
+    ensures opening { IfErr result
+        (OpeningPromise (H.outside host.old) (H.outside host.new)) }
+{
+    match open_volume(alloc, host) {
+        Ok(volume) => Ok(volume),
+        Err(fault) => Err(status_unopened(fault)),
+    }
+}
