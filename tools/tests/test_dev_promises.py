@@ -103,6 +103,28 @@ class PromisesTest(InToy):
             "| A run keeps all | `exsm_run` `run`: `kept` |",
             "| `run` | `exsm_run/src/lib.rt` | none | `exsm (stored)` |"])
 
+    def test_stored(self) -> None:
+        """a stored program counts as a test of what it calls in crates that are for tests alone"""
+        self.change("crates.txt", "test_low: low\n",
+                    "test_low: low\npictures: low\nshown: pictures\n")
+        self.write("crates/pictures/src/lib.rt",
+                   "//! Pictures of pages.\nuse low::pages::MOST;\n\n/// A page's picture.\n"
+                   "pub fn picture(number: u32) -> u32\n    ensures { result ≤ 9 }\n{\n"
+                   "    lines_of(number)\n}\n\n"
+                   "fn lines_of(number: u32) -> u32\n    ensures { result ≤ 9 }\n{\n"
+                   "    number.min(MOST)\n}\n")
+        self.write("crates/shown/src/main.rt",
+                   "//! Shows a page.\nuse pictures::picture;\n\nfn main() {\n    picture(1);\n}\n")
+        self.write("crates/shown/stdout", "1\n")
+        self.write("docs/PROMISES.md", self.text("docs/PROMISES.md")
+                   + "\n## pictures\n\n| Promise | Call | Clauses |\n|---|---|---|\n"
+                   "| A picture has few lines | `picture`, `lines_of` | its clause |\n")
+        self.assertEqual(self.script("promises.py").status, 0)
+        rows = self.text("docs/MAP.md").splitlines()
+        self.assertEqual([it for it in rows if it.startswith(("| `picture`", "| `lines_of`"))], [
+            "| `picture` | `pictures/src/lib.rt` | none | `shown (stored)` |",
+            "| `lines_of` | `pictures/src/lib.rt` | none | through `pictures` `picture` |"])
+
     def test_gone(self) -> None:
         """each kind of name that is gone is told, with its document and row, and the status is 1"""
         for what, (name, old, new, told) in GONE.items():

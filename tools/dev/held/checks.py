@@ -6,7 +6,8 @@ from collections import defaultdict
 from pathlib import Path
 from typing import Iterator, NamedTuple, Optional
 
-from crate_code import Function, Sources, edits_of, has_file, kept_edits_of, text_of
+from crate_code import (Function, Sources, edits_of, has_file, kept_edits_of, text_of,
+                        with_below)
 
 # The most tests that are told of one call.
 TESTS_MOST = 4
@@ -101,9 +102,20 @@ def tests_by_name(sources: Sources) -> Tests:
                         found[other, it.full()].append(f"{crate}/{test.name}")
     for crate in sources.crates:
         if has_file(f"crates/{crate}/stdout"):
-            for below in sources.below[crate]:
-                found[below, "run"].append(f"{crate} (stored)")
+            for call in stored_calls(sources, crate):
+                found[call].append(f"{crate} (stored)")
     return found
+
+
+def stored_calls(sources: Sources, crate: str) -> Iterator[Call]:
+    """What a stored program calls: the `run` of crates, and anything of those for tests alone."""
+    products = set(with_below("exsm"))
+    for below in sources.below[crate]:
+        for it in sources.functions.get(below, []):
+            of_tests = below not in products and it.is_public and not it.of_trait
+            if it.full() == "run" or of_tests and any(
+                    it.is_called_by(own) for own in sources.functions[crate]):
+                yield it.crate, it.full()
 
 
 def through(sources: Sources, tests: Tests, function: Function) -> list[str]:
