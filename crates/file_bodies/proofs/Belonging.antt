@@ -24,6 +24,10 @@ module _ {S : Type 0} (g : ground.Ghosts S) where
   pub of_page : (a : S) (page : ℕ) → IsOfFile g a page → IsPage (g.image a page)
   of_page a page of = (page_of g a of.index page of.file (contains_times page (pages_in (g.image a) of.index) of.named)).spelled
 
+  -- a body stands on a page of its file
+  pub of_body : (a : S) (index : Index) (place : Place) (body : List ℕ) → HasBody g a index place body → IsOfFile g a place.page.0
+  of_body a index place body has = record { index = index; file = has.file; named = has.named }
+
   -- the body that is read on a page of a file is that of the file, and none stands where none is read
   pub found_body : {X : Type 0} (f : X → List ℕ) (r : Option X) (a : S) (place : Place) (bytes : List ℕ) → IsOfFile g a place.page.0
       → bytes ≡ g.image a place.page.0

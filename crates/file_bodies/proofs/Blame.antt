@@ -80,17 +80,17 @@ module _ {S : Type 0} (g : ground.Ghosts S) (a b : S) (index : Index) (key : ℕ
 
 -- ---- the file of a page
 
-pub belonging_fault : {S : Type 0} (g : ground.Ghosts S) (a b c : S) (page file_no : ℕ) (index : Index) (o : Option Index) (fault : PortFault) → Keeps g a b → Keeps g b c → (g.tells a → IsPage (g.image a page) × ((page_on (g.image a page)).file_no ≡ file_no))
-    → o ≡ Some index → (g.tells b → o ≡ index_at (g.image b) file_no) → (g.tells b → IsCatalogPage (g.image b catalog_no)) → (g.tells c → IsIndexFault (g.geometry c) every_page (g.image c) index page fault) → g.tells a → IsBelongingFault (g.geometry a) (g.image a) page fault
-belonging_fault g a b c page file_no index o fault kept then_kept of some found whole h told =
+pub belonging_fault : {S : Type 0} (g : ground.Ghosts S) (a b c : S) (page file_no : ℕ) (index : Index) (o : Option Index) (fault : PortFault) → Keeps g a b → Keeps g b c → (g.tells a → (page_on (g.image a page)).file_no ≡ file_no)
+    → o ≡ Some index → (g.tells b → o ≡ index_at (g.image b) file_no) → (g.tells b → IsCatalogPage (g.image b catalog_no)) → (g.tells c → IsIndexFault (g.geometry c) every_page (g.image c) index page fault) → g.tells a → IsPage (g.image a page) → IsBelongingFault (g.geometry a) (g.image a) page fault
+belonging_fault g a b c page file_no index o fault kept then_kept of some found whole h told spelled =
     let lists : ListsFile (g.image a catalog_no) file_no index =
     carried g a b (λ y u. ListsFile (u catalog_no) file_no index) kept (λ t. record { whole = whole t; entry = sym (found t) ∙ some }) told in
-    on_the_way index (of told).0 (subst (λ (n : ℕ). ListsFile (g.image a catalog_no) n index) (sym (of told).1) lists)
+    on_the_way index spelled (subst (λ (n : ℕ). ListsFile (g.image a catalog_no) n index) (sym (of told)) lists)
     (carried g a b (λ y u. IsIndexFault y every_page u index page fault) kept (carried g b c (λ y u. IsIndexFault y every_page u index page fault) then_kept h) told)
 
 -- the way to a page that is named, and the file that the catalog lacks
 pub belonging_way : {S : Type 0} (g : ground.Ghosts S) (a b c : S) (page file_no : ℕ) (index : Index) (o : Option Index) → Keeps g a b → Keeps g b c
-    → (g.tells a → IsPage (g.image a page) × ((page_on (g.image a page)).file_no ≡ file_no))
+    → (g.tells a → (page_on (g.image a page)).file_no ≡ file_no)
     → o ≡ Some index → (g.tells b → o ≡ index_at (g.image b) file_no) → (g.tells b → IsCatalogPage (g.image b catalog_no))
     → (g.tells c → HasWay (g.geometry c) (g.image c) index page) → g.tells a → IsBelonging (g.geometry a) (g.image a) page
 belonging_way g a b c page file_no index o kept then_kept of some found whole way told = λ area spelled.
@@ -99,18 +99,18 @@ belonging_way g a b c page file_no index o kept then_kept of some found whole wa
     (carried g b c (λ y u. HasWay y u index page) then_kept way) told in (
       carried g a b (λ y u. IsCatalogPage (u catalog_no)) kept whole told,
       λ other lists.
-          let e : Some index ≡ Some other = sym at ∙ subst (λ (n : ℕ). index_at (g.image a) n ≡ Some other) (of told).1 lists.entry in
+          let e : Some index ≡ Some other = sym at ∙ subst (λ (n : ℕ). index_at (g.image a) n ≡ Some other) (of told) lists.entry in
           let same : index ≡ other = cc in
           subst (λ (i : Index). HasWay (g.geometry a) (g.image a) i page) same here,
     )
 
 pub belonging_lacks : {S : Type 0} (g : ground.Ghosts S) (a b : S) (page file_no : ℕ) (o : Option Index) → Keeps g a b
-    → (g.tells a → IsPage (g.image a page) × ((page_on (g.image a page)).file_no ≡ file_no))
+    → (g.tells a → (page_on (g.image a page)).file_no ≡ file_no)
     → o ≡ None → (g.tells b → o ≡ index_at (g.image b) file_no) → (g.tells b → IsCatalogPage (g.image b catalog_no)) → g.tells a
     → IsBelonging (g.geometry a) (g.image a) page
 belonging_lacks g a b page file_no o kept of none found whole told = λ area spelled.
     let at : index_at (g.image a) file_no ≡ None = carried g a b (λ y u. index_at u file_no ≡ None) kept (λ t. sym (found t) ∙ none) told in (
       carried g a b (λ y u. IsCatalogPage (u catalog_no)) kept whole told,
       λ other lists.
-          absurd (let e : None ≡ Some other = sym at ∙ subst (λ (n : ℕ). index_at (g.image a) n ≡ Some other) (of told).1 lists.entry in cc),
+          absurd (let e : None ≡ Some other = sym at ∙ subst (λ (n : ℕ). index_at (g.image a) n ≡ Some other) (of told) lists.entry in cc),
     )

@@ -1,5 +1,6 @@
 //! Bodies read, and the places of a file in order.
 ghost use Rattle.std.specs.Prelude.{◌≡◌, ◌<◌, ◌+◌, ℕ, List, length, Contains, IfOk, IfErr, OnOk, IfSome, IfNone, IsTrue, false, ◌≢◌, MatchOption, Some, None, slice_index_or};
+ghost use Rattle.std.specs.Option.{option_map};
 ghost use Rattle.std.specs.Borrow.{sem};
 ghost use Rattle.ex_base.specs.Ports.{Rests, Keeps, HasCause, IsDamage};
 ghost use Rattle.slotted_pages.specs.Reads.{page_on, IsPage};
@@ -17,6 +18,7 @@ use crate::catalog::{find_index, index_of};
 use crate::page::{body_on, file_on, live_slot, may_be_of_file};
 use ex_base::{Index, PageNo, Place, PortFault, ReadPages};
 use file_index::at_least;
+use slotted_pages::file_named;
 use std::alloc::Global;
 
 /// The bodies of a whole file stand in order of their places.
@@ -47,6 +49,29 @@ fn file_at<P: ReadPages>(
         return Ok(None);
     }
     Ok(file_on(pages.get(alloc, page)?))
+}
+
+/// The number of the file that a page names, none where it can't be a page of a file. Of the page only its head is looked at.
+fn named_at<P: ReadPages>(
+    pages: &mut P,
+    alloc: Global,
+    page: PageNo,
+) -> Result<Option<u32>, PortFault>
+    requires { P.ready pages.old }
+    ensures some { IfOk result (λ found. IfSome found (λ file_no. P.tells pages.old
+        → (page_on (P.image pages.old page.0)).file_no ≡ file_no)) }
+    ensures area { IfOk result
+        (λ found. IfSome found (λ file_no. IsFilesPage (P.geometry pages.old) page.0)) }
+    ensures none { IfOk result (λ found. IfNone found (P.tells pages.old
+        → IsFilesPage (P.geometry pages.old) page.0 → IsPage (P.image pages.old page.0) → ⊥)) }
+    ensures no_damage { IfErr result (λ fault. IsDamage fault → ⊥) }
+    ensures kept { Keeps P.Ground pages.old pages.new }
+    ensures cause { HasCause (P.faults pages.old) (P.faults pages.new) result }
+{
+    if !may_be_of_file(pages, page) {
+        return Ok(None);
+    }
+    Ok(file_named(pages.get(alloc, page)?))
 }
 
 /// Whether an index names a page.
@@ -80,7 +105,38 @@ fn names<P: ReadPages>(
     }
 }
 
-/// Whether a page is one of a file.
+/// Whether the index of the file that a page names has the page. The page itself isn't tested.
+fn is_named<P: ReadPages>(pages: &mut P, alloc: Global, page: PageNo) -> Result<bool, PortFault>
+    requires { P.ready pages.old }
+    ensures yes { IfOk result (λ of. IsTrue of → P.tells pages.old
+        → HasFileOf P.Ground pages.old page.0 → IsOfFile P.Ground pages.old page.0) }
+    ensures no { IfOk result (λ of. of ≡ false → P.tells pages.old
+        → IsOfFile P.Ground pages.old page.0 → ⊥) }
+    ensures area { IfOk result (λ of. IsTrue of → IsFilesPage (P.geometry pages.old) page.0) }
+    ensures sound { IfErr result (λ fault. IsDamage fault → P.tells pages.old
+        → HasFileOf P.Ground pages.old page.0 → ⊥) }
+    ensures fault { IfErr result (λ fault. P.tells pages.old
+        → IsPage (P.image pages.old page.0)
+        → IsBelongingFault (P.geometry pages.old) (P.image pages.old) page.0 fault) }
+    ensures way { OnOk result (P.tells pages.old
+        → IsBelonging (P.geometry pages.old) (P.image pages.old) page.0) }
+    ensures kept { Keeps P.Ground pages.old pages.new }
+    ensures cause { HasCause (P.faults pages.old) (P.faults pages.new) result }
+{
+    let file_no = match named_at(pages, alloc, page) {
+        Ok(None) => return Ok(false),
+        Ok(Some(file_no)) => file_no,
+        Err(fault) => return Err(fault),
+    };
+    let index = match find_index(pages, alloc, file_no) {
+        Ok(None) => return Ok(false),
+        Ok(Some(index)) => index,
+        Err(fault) => return Err(fault),
+    };
+    names(pages, alloc, &index, page)
+}
+
+/// Whether a page is one of a file. It is tested itself only where a fault comes on the way to it, which is told where it is a page of a file.
 fn is_of_file<P: ReadPages>(pages: &mut P, alloc: Global, page: PageNo) -> Result<bool, PortFault>
     requires { P.ready pages.old }
     ensures yes { IfOk result (λ of. IsTrue of → P.tells pages.old
@@ -97,17 +153,15 @@ fn is_of_file<P: ReadPages>(pages: &mut P, alloc: Global, page: PageNo) -> Resul
     ensures kept { Keeps P.Ground pages.old pages.new }
     ensures cause { HasCause (P.faults pages.old) (P.faults pages.new) result }
 {
-    let file_no = match file_at(pages, alloc, page) {
-        Ok(None) => return Ok(false),
-        Ok(Some(file_no)) => file_no,
-        Err(fault) => return Err(fault),
+    let fault = match is_named(pages, alloc, page) {
+        Ok(named) => return Ok(named),
+        Err(fault) => fault,
     };
-    let index = match find_index(pages, alloc, file_no) {
-        Ok(None) => return Ok(false),
-        Ok(Some(index)) => index,
-        Err(fault) => return Err(fault),
-    };
-    names(pages, alloc, &index, page)
+    match file_at(pages, alloc, page) {
+        Ok(Some(_)) => Err(fault),
+        Ok(None) => Ok(false),
+        Err(fault) => Err(fault),
+    }
 }
 
 /// Lends the body at a place. None exactly where no file has one there.
@@ -140,6 +194,30 @@ pub fn body_at<P: ReadPages>(
         Ok(true) => {}
         Ok(false) => return Ok(None),
         Err(fault) => return Err(fault),
+    }
+    let page = pages.get(alloc, place.page)?;
+    Ok(body_on(page, place.slot))
+}
+
+/// Lends what stands at a place, none where its page is no page of a file. Whether a file has the page isn't looked at.
+pub fn body_there<P: ReadPages>(
+    pages: &mut P,
+    alloc: Global,
+    place: Place,
+) -> Result<Option<&[u8]>, PortFault>
+    requires { P.ready pages.old }
+    ensures found { IfOk result (λ found. P.tells pages.old → (index : Index) (body : List ℕ)
+        → HasBody P.Ground pages.old index place body
+        → option_map (λ there. there.now) found ≡ Some body) }
+    ensures stands { IfOk result (λ found. P.tells pages.old
+        → IfSome found (λ body. slice_index_or
+        (slots_of (P.image pages.old place.page.0)) place.slot None ≡ Some body.now)) }
+    ensures no_damage { IfErr result (λ fault. IsDamage fault → ⊥) }
+    ensures* after { sem 𝓛 (Rests P.row pages.entry (λ new. Keeps P.Ground pages.old new
+        × HasCause (P.faults pages.old) (P.faults new) result)) }
+{
+    if !may_be_of_file(pages, place.page) {
+        return Ok(None);
     }
     let page = pages.get(alloc, place.page)?;
     Ok(body_on(page, place.slot))

@@ -1,6 +1,7 @@
 -- Entries that are written are read again, and entries that are read are written so.
-use Rattle.std.proofs.Common.{◌≡◌, ℕ, ◌+◌, ◌-◌, ◌*◌, ◌<◌, ◌≤◌, ◌↔◌, List, ◌∷◌, ◌++◌, length, take, drop, refl, sym, ap, subst, ◌∙◌, arith}
+use Rattle.std.proofs.Common.{◌≡◌, ℕ, ◌+◌, ◌-◌, ◌*◌, ◌<◌, ◌≤◌, ◌↔◌, List, ◌∷◌, ◌++◌, length, take, drop, refl, sym, ap, subst, ◌∙◌, arith, inl, inr}
 use Rattle.std.specs.List.{flat_map, AllByRecursion}
+use Rattle.std.proofs.lemmas.Bool.{cases_lt}
 use Rattle.ex_base.specs.Fields.{number_at}
 use Rattle.ex_base.proofs.FieldLaws.{number_at-drop}
 use Rattle.ex_base.specs.Bytes.{IsBytes}
@@ -66,4 +67,28 @@ goes_on All n i least key bytes lt is rises both =
     let step = rise_step n i least bytes lt in (
       λ all. let now : (least ≤ number_at 4 bytes (8 * i)) × RiseFrom (number_at 4 bytes (8 * i) + 1) (read_entries (n - (i + 1)) (drop (8 * (i + 1)) bytes)) = rw step at (both.0 all) in subst Rest (sym is) now.1,
       λ rest. both.1 (rw step (omega (arith, is, rises), subst Rest is rest)),
+    )
+
+-- two keys in one step, the second one of which stops, and a last key alone
+pub goes_two : (All : Type 0) (n i least key next : ℕ) (bytes : List ℕ) → i + 1 < n → key ≡ number_at 4 bytes (8 * i) → next ≡ number_at 4 bytes (8 * (i + 1)) → least ≤ key → key < next → (All ↔ RiseFrom least (read_entries (n - i) (drop (8 * i) bytes))) → (All ↔ RiseFrom (next + 1) (read_entries (n - (i + 2)) (drop (8 * (i + 2)) bytes)))
+goes_two All n i least key next bytes lt is then_is rises more both =
+    let one = goes_on All n i least key bytes (omega (arith, lt)) is rises both in
+    let two = goes_on All n (i + 1) (key + 1) next bytes lt then_is (omega (arith, more)) one in
+    let e : i + 1 + 1 ≡ i + 2 = omega arith in
+    subst (λ (k : ℕ). All ↔ RiseFrom (next + 1) (read_entries (n - k) (drop (8 * k) bytes))) e two
+
+pub stops_second : (All : Type 0) (n i least key next : ℕ) (bytes : List ℕ) → i + 1 < n → key ≡ number_at 4 bytes (8 * i) → next ≡ number_at 4 bytes (8 * (i + 1)) → least ≤ key → next ≤ key → (All ↔ RiseFrom least (read_entries (n - i) (drop (8 * i) bytes))) → All → ⊥
+stops_second All n i least key next bytes lt is then_is rises below both all =
+    let one = goes_on All n i least key bytes (omega (arith, lt)) is rises both in
+    stops n (i + 1) (key + 1) next bytes lt then_is (omega (arith, below)) (one.0 all)
+
+pub last_alone : (All : Type 0) (n i least key : ℕ) (bytes : List ℕ) → i + 1 ≡ n → key ≡ number_at 4 bytes (8 * i) → (All ↔ RiseFrom least (read_entries (n - i) (drop (8 * i) bytes))) → (least ≤ key) ↔ All
+last_alone All n i least key bytes end is both =
+    let within : i < n = omega (arith, end) in
+    let none : n - (i + 1) ≡ 0 = omega (arith, end) in (
+      λ rises. (goes_on All n i least key bytes within is rises both).1 (subst (λ (k : ℕ). RiseFrom (key + 1) (read_entries k (drop (8 * (i + 1)) bytes))) (sym none) tt),
+      λ all. elim (cases_lt key least) [
+        | inl below ↦ absurd (stops n i least key bytes within is below (both.0 all))
+        | inr rises ↦ rises
+      ],
     )

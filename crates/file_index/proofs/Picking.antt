@@ -1,17 +1,17 @@
 -- The least key that is not below a key, through the entry that leads to it.
-use Rattle.std.proofs.Common.{◌≡◌, ◌≤◌, ◌<◌, ◌+◌, ℕ, zero, true, false, List, [], ◌∷◌, ◌++◌, drop, Option, Some, None, nat_lt, refl, ap, subst, ◌∙◌, arith, ltb-true, ltb-false, lt-ltb, le-ltb, inl, inr, sym}
-use Rattle.std.specs.Prelude.{slice_get, Contains, if◌then◌else◌}
+use Rattle.std.proofs.Common.{◌≡◌, ◌≤◌, ◌<◌, ◌+◌, ◌-◌, ℕ, zero, suc, true, false, List, [], ◌∷◌, ◌++◌, Option, Some, None, nat_lt, refl, ap, subst, ◌∙◌, arith, ltb-true, ltb-false, lt-ltb, le-ltb, inl, inr}
+use Rattle.std.specs.Prelude.{slice_get, length, Contains, if◌then◌else◌}
 use Rattle.std.specs.List.{flat_map, AllByRecursion}
 use Rattle.std.proofs.lemmas.List.{append-nil}
-use Rattle.std.proofs.lemmas.Option.{slice_get_within, get_or_from_slice_get}
+use Rattle.std.proofs.lemmas.Option.{slice_get_within}
 use Rattle.ex_base.specs.declared.names.PageNo.{PageNo}
 use Rattle.file_index.specs.declared.Entry.{Entry}
 use Rattle.file_index.specs.declared.step.Step.{Step}
 use Rattle.ex_base.specs.Order.{Rising}
-use Rattle.ex_base.proofs.Lists.{drop_item}
 use Rattle.ex_base.proofs.Members.{contains_cases, contains_later}
 use Rattle.file_index.specs.Index.{Rises}
-use Rattle.file_index.specs.Least.{IsLeastFrom, first_from, pick_from, page_no}
+use Rattle.file_index.specs.IndexPage.{RiseFrom}
+use Rattle.file_index.specs.Least.{IsLeastFrom, IsFirstAbove, first_from, pick, pick_from, page_no}
 use Rattle.file_index.proofs.Under.{Begins}
 
 -- ---- numbers that rise
@@ -107,22 +107,109 @@ picked_rises K entry (after ∷ entries) key a next rises =
       | false ↦ picked_rises K after entries key a next (rises_back a (K entry) (flat_map K (after ∷ entries)) rises)
     ]
 
--- ---- a loop over the entries
+-- ---- bisection
 
-next_of : (entries : List Entry) (at : ℕ) (after : Entry) → slice_get entries at ≡ Some after → drop at entries ≡ after ∷ drop (at + 1) entries
-next_of entries at after e = drop_item entries at after (slice_get_within entries at after e) (sym (get_or_from_slice_get entries at after after e))
+-- keys rise
+key_rises : (least : ℕ) (entries : List Entry) (m : ℕ) (entry : Entry) → RiseFrom least entries → slice_get entries m ≡ Some entry → least ≤ entry.key
+key_rises least [] m entry rise at = absurd cc
+key_rises least (x ∷ entries) zero entry rise at = let same : x ≡ entry = cc in omega (arith, rise.0, ap (λ (e : Entry). e.key) same)
+key_rises least (x ∷ entries) (suc m) entry rise at = omega (arith, rise.0, key_rises (x.key + 1) entries m entry rise.1 at)
 
-pub pick_stops : (entries : List Entry) (child after : Entry) (at key : ℕ) (next : Option PageNo) (all : Step) → slice_get entries at ≡ Some after → key < after.key → all ≡ pick_from child (drop at entries) key next
-    → all ≡ record { child = child; next = Some (page_no after.key) }
-pick_stops entries child after at key next all e lt h =
-    let test : nat_lt key after.key ≡ true = lt-ltb key after.key lt in
-    h ∙ ap (λ (xs : List Entry). pick_from child xs key next) (next_of entries at after e) ∙ (rw test refl)
+keys_up : (least : ℕ) (entries : List Entry) (k m : ℕ) (low high : Entry) → RiseFrom least entries → k ≤ m → slice_get entries k ≡ Some low → slice_get entries m ≡ Some high → low.key ≤ high.key
+keys_up least [] k m low high rise le at at' = absurd cc
+keys_up least (x ∷ entries) zero zero low high rise le at at' = let same : low ≡ high = cc in omega (arith, ap (λ (e : Entry). e.key) same)
+keys_up least (x ∷ entries) (suc k) zero low high rise le at at' = absurd (omega (arith, le))
+keys_up least (x ∷ entries) zero (suc m) low high rise le at at' = let same : x ≡ low = cc in omega (arith, ap (λ (e : Entry). e.key) same, key_rises (x.key + 1) entries m high rise.1 at')
+keys_up least (x ∷ entries) (suc k) (suc m) low high rise le at at' = keys_up (x.key + 1) entries k m low high rise.1 (omega (arith, le)) at at'
 
-pub pick_goes_on : (entries : List Entry) (child after : Entry) (at key : ℕ) (next : Option PageNo) (all : Step) → slice_get entries at ≡ Some after → after.key ≤ key → all ≡ pick_from child (drop at entries) key next
-    → all ≡ pick_from after (drop (at + 1) entries) key next
-pick_goes_on entries child after at key next all e le h =
-    let test : nat_lt key after.key ≡ false = le-ltb key after.key le in
-    h ∙ ap (λ (xs : List Entry). pick_from child xs key next) (next_of entries at after e) ∙ (rw test refl)
+-- the first entry above the key stands from low to high
+pub record Halved (key : ℕ) (entries : List Entry) (low high : ℕ) : Type 0 where
+  pub behind : 1 ≤ low
+  pub order : low ≤ high
+  pub inside : high ≤ length entries
+  pub above : (entry : Entry) → slice_get entries high ≡ Some entry → key < entry.key
+  pub none_before : (k : ℕ) (entry : Entry) → 1 ≤ k → k < low → slice_get entries k ≡ Some entry → entry.key ≤ key
+
+pub start_halves : (key : ℕ) (entries : List Entry) (high : ℕ) → 1 ≤ length entries → high ≡ length entries → Halved key entries 1 high
+start_halves key entries high some all = record {
+  behind = omega arith;
+  order = omega (arith, some, all);
+  inside = omega (arith, all);
+  above = λ entry at. absurd (omega (arith, all, slice_get_within entries high entry at));
+  none_before = λ k entry from to at. absurd (omega (arith, from, to));
+}
+
+pub lower_half : (key : ℕ) (entries : List Entry) (low high middle : ℕ) (entry : Entry) → slice_get entries middle ≡ Some entry → low ≤ middle → middle < high → key < entry.key → Halved key entries low high → Halved key entries low middle
+lower_half key entries low high middle entry at le lt here h = record {
+  behind = h.behind;
+  order = le;
+  inside = omega (arith, lt, h.inside);
+  above = λ e at'. let same : entry ≡ e = cc in omega (arith, here, ap (λ (e : Entry). e.key) same);
+  none_before = h.none_before;
+}
+
+pub upper_half : (key : ℕ) (entries : List Entry) (low high middle : ℕ) (entry : Entry) → RiseFrom 0 entries → slice_get entries middle ≡ Some entry → middle < high → entry.key ≤ key → Halved key entries low high → Halved key entries (middle + 1) high
+upper_half key entries low high middle entry rise at lt here h = record {
+  behind = omega arith;
+  order = omega (arith, lt);
+  inside = h.inside;
+  above = h.above;
+  none_before = λ k e from to at'. omega (arith, here, keys_up 0 entries k middle e entry rise (omega (arith, to)) at' at);
+}
+
+pub first_found : (key : ℕ) (entries : List Entry) (low high : ℕ) → high ≤ low → Halved key entries low high → IsFirstAbove key entries low
+first_found key entries low high end h =
+    let same : high ≡ low = omega (arith, end, h.order) in
+    record {
+      behind = h.behind;
+      inside = omega (arith, same, h.inside);
+      above = subst (λ k. (entry : Entry) → slice_get entries k ≡ Some entry → key < entry.key) same h.above;
+      none_before = h.none_before;
+    }
+
+-- ---- the entry before the first one above the key
+
+picked_before : (entry : Entry) (entries : List Entry) (key index : ℕ) (next : Option PageNo) (child after : Entry) → ((k : ℕ) (e : Entry) → k < index → slice_get entries k ≡ Some e → e.key ≤ key)
+    → slice_get (entry ∷ entries) index ≡ Some child → slice_get entries index ≡ Some after → key < after.key → pick_from entry entries key next ≡ record { child = child; next = Some (page_no after.key) }
+picked_before entry [] key index next child after low at behind lt = absurd cc
+picked_before entry (x ∷ entries) key zero next child after low at behind lt =
+    let here : entry ≡ child = cc in
+    let same : x ≡ after = cc in
+    let test : nat_lt key x.key ≡ true = lt-ltb key x.key (omega (arith, lt, ap (λ (e : Entry). e.key) same)) in
+    let with_child : Entry → Step = λ c. record { child = c; next = Some (page_no x.key) } in
+    let with_next : Entry → Step = λ a. record { child = child; next = Some (page_no a.key) } in
+    rw test (ap with_child here ∙ ap with_next same)
+picked_before entry (x ∷ entries) key (suc index) next child after low at behind lt =
+    let test : nat_lt key x.key ≡ false = le-ltb key x.key (low 0 x (omega arith) refl) in
+    rw test (picked_before x entries key index next child after (λ k e below. low (suc k) e (omega (arith, below))) at behind lt)
+
+picked_last : (entry : Entry) (entries : List Entry) (key : ℕ) (next : Option PageNo) (child : Entry) → ((k : ℕ) (e : Entry) → slice_get entries k ≡ Some e → e.key ≤ key)
+    → slice_get (entry ∷ entries) (length entries) ≡ Some child → pick_from entry entries key next ≡ record { child = child; next = next }
+picked_last entry [] key next child low at =
+    let here : entry ≡ child = cc in
+    let with_child : Entry → Step = λ c. record { child = c; next = next } in
+    ap with_child here
+picked_last entry (x ∷ entries) key next child low at =
+    let test : nat_lt key x.key ≡ false = le-ltb key x.key (low 0 x refl) in
+    rw test (picked_last x entries key next child (λ k e. low (suc k) e) at)
+
+pub pick_inside : (entries : List Entry) (key index : ℕ) (next : Option PageNo) (child after : Entry) → IsFirstAbove key entries index → slice_get entries (index - 1) ≡ Some child → slice_get entries index ≡ Some after
+    → pick entries key next ≡ record { child = child; next = Some (page_no after.key) }
+pick_inside [] key index next child after first at behind = absurd (omega (arith, first.behind, first.inside))
+pick_inside (entry ∷ entries) key zero next child after first at behind = absurd (omega (arith, first.behind))
+pick_inside (entry ∷ entries) key (suc index) next child after first at behind =
+    let before : suc index - 1 ≡ index = omega arith in
+    picked_before entry entries key index next child after (λ k e below. first.none_before (suc k) e (omega arith) (omega (arith, below)))
+    (subst (λ i. slice_get (entry ∷ entries) i ≡ Some child) before at) behind (first.above after behind)
+
+pub pick_behind : (entries : List Entry) (key index : ℕ) (next : Option PageNo) (child : Entry) → IsFirstAbove key entries index → slice_get entries (index - 1) ≡ Some child → index ≡ length entries
+    → pick entries key next ≡ record { child = child; next = next }
+pick_behind [] key index next child first at all = absurd (omega (arith, first.behind, first.inside))
+pick_behind (entry ∷ entries) key index next child first at all =
+    let last : index - 1 ≡ length entries = omega (arith, all) in
+    picked_last entry entries key next child
+    (λ k e here. first.none_before (suc k) e (omega arith) (omega (arith, all, slice_get_within entries k e here)) here)
+    (subst (λ i. slice_get (entry ∷ entries) i ≡ Some child) last at)
 
 -- ---- the least one
 

@@ -1,5 +1,5 @@
 -- The least file page that is not below a key.
-use Rattle.std.specs.Prelude.{◌≤◌, ◌<◌, ℕ, List, [], ◌∷◌, Option, Some, None, nat_lt, if◌then◌else◌, Contains}
+use Rattle.std.specs.Prelude.{◌≡◌, ◌≤◌, ◌<◌, ℕ, List, [], ◌∷◌, length, slice_get, Option, Some, None, nat_lt, if◌then◌else◌, Contains}
 use Rattle.ex_base.specs.declared.names.PageNo.{PageNo}
 use Rattle.file_index.specs.declared.Entry.{Entry}
 use Rattle.file_index.specs.declared.step.Step.{Step}
@@ -30,3 +30,10 @@ pick_from entry (after ∷ entries) key next = if nat_lt key after.key then reco
 abbrev pub pick : List Entry → ℕ → Option PageNo → Step
 pick [] key next = record { child = record { key = 0; page = page_no 0 }; next = next }
 pick (entry ∷ entries) key next = pick_from entry entries key next
+
+-- the index of the first entry behind the first one whose key is above the key, else the number of entries
+pub record IsFirstAbove (key : ℕ) (entries : List Entry) (index : ℕ) : Type 0 where
+  pub behind : 1 ≤ index
+  pub inside : index ≤ length entries
+  pub above : (entry : Entry) → slice_get entries index ≡ Some entry → key < entry.key
+  pub none_before : (k : ℕ) (entry : Entry) → 1 ≤ k → k < index → slice_get entries k ≡ Some entry → entry.key ≤ key

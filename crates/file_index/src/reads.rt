@@ -8,20 +8,26 @@ use crate::{
 };
 use ex_base::{get_u16, get_u32, is_zero};
 
-/// Whether the keys of n entries rise strictly.
+/// Whether the keys of n entries rise strictly. Two of them are looked at in each step.
 fn keys_rise(bytes: &[u8], n: usize) -> bool
     requires { 8 * n ≤ length bytes.now }
     ensures { IsTrue result ↔ RiseFrom 0 (read_entries n bytes.now) }
 {
     let mut least = 0;
-    for i in 0..n {
-        let key = u64::from(get_u32(bytes, ENTRY_BYTES * i));
+    let mut at = 0;
+    while at + 1 < n {
+        let key = u64::from(get_u32(bytes, ENTRY_BYTES * at));
+        let next = u64::from(get_u32(bytes, ENTRY_BYTES * (at + 1)));
         if key < least {
             return false;
         }
-        least = key + 1;
+        if next <= key {
+            return false;
+        }
+        least = next + 1;
+        at += 2;
     }
-    true
+    at == n || u64::from(get_u32(bytes, ENTRY_BYTES * at)) >= least
 }
 
 /// Whether the page is an index page.

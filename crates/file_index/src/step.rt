@@ -19,16 +19,13 @@ pub fn pick(view: &IndexView, key: u32, next: Option<PageNo>) -> Step
     ensures step { result ≡ pick view.now.entries key next }
     ensures above { IsAtLeast key next → IsAtLeast key result.next }
 {
-    let mut child = view.entry(0);
-    for at in 1..view.len() {
-        let after = view.entry(at);
-        if key < after.key {
-            return Step {
-                child,
-                next: Some(PageNo(after.key)),
-            };
-        }
-        child = after;
+    let index = view.first_above(key);
+    let child = view.entry(index - 1);
+    if index == view.len() {
+        return Step { child, next };
     }
-    Step { child, next }
+    Step {
+        child,
+        next: Some(PageNo(view.entry(index).key)),
+    }
 }

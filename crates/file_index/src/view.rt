@@ -1,6 +1,7 @@
 //! An index page as it is read, without a copy.
 ghost use Rattle.std.specs.Prelude.{◌≡◌, ℕ, ◌+◌, ◌*◌, ◌<◌, ◌≤◌, List, length, slice_get, IfSome, IfNone, IfOk};
 ghost use Rattle.file_index.specs.declared.Entry.{Entry};
+ghost use Rattle.file_index.specs.Least.{IsFirstAbove};
 ghost use Rattle.file_index.specs.IndexPage.{Indexed, indexed_on, entries_on, EntriesOf, RiseFrom};
 
 use crate::reads::is_index_page;
@@ -72,6 +73,26 @@ impl<'a> IndexView<'a> {
             key: get_u32(self.page, at),
             page: PageNo(get_u32(self.page, at + PAGE_AT)),
         }
+    }
+
+    /// The first entry behind the first one whose key is above the key, by bisection. Where there is none, how many there are.
+    pub(crate) fn first_above(&self, key: u32) -> u32
+        requires { 1 ≤ length self.now.entries }
+        ensures { IsFirstAbove key self.now.entries result }
+    {
+        // A use of the field gives the proof that the keys rise.
+        let _ = &self.page;
+        let mut low = 1;
+        let mut high = self.len();
+        while low < high {
+            let middle = low + (high - low) / 2;
+            if key < self.entry(middle).key {
+                high = middle;
+            } else {
+                low = middle + 1;
+            }
+        }
+        low
     }
 
     /// The entries, as a list of their own.

@@ -19,6 +19,10 @@ pub file_given : (page : List ℕ) (v : Viewed) → viewed_on page ≡ v → num
 unfolding page_on
 file_given page v is = ap (λ (x : Viewed). x.page.file_no) is
 
+pub file_read : (page : List ℕ) → (page_on page).file_no ≡ number_at 4 page 8
+unfolding page_on
+file_read page = refl
+
 pub total_len : (slots : List Slot) → added (map len_of slots) ≡ length (bodies slots)
 total_len [] = refl
 total_len (slot ∷ slots) = ap (λ (k : ℕ). len_of slot + k) (total_len slots) ∙ sym (length-append (body_of slot) (bodies slots))

@@ -13,6 +13,7 @@ mod view;
 mod whole;
 
 pub use edit::{empty_page, insert_body, remove_body, resize_body};
+pub use reads::file_named;
 pub use view::SlottedView;
 pub use whole::{SlotBody, write_slots};
 

@@ -1,11 +1,11 @@
-ghost use Rattle.std.specs.Prelude.{◌≡◌, ℕ, ◌↔◌, ◌+◌, ◌-◌, ◌*◌, ◌^◌, ◌<◌, ◌≤◌, length, IsTrue, IfSome};
+ghost use Rattle.std.specs.Prelude.{◌≡◌, ℕ, ◌↔◌, ◌+◌, ◌-◌, ◌*◌, ◌^◌, ◌<◌, ◌≤◌, length, IsTrue, IfSome, IfNone};
 ghost use Rattle.ex_base.specs.Fields.{number_at};
-ghost use Rattle.slotted_pages.specs.Reads.{step_to, end_of, added, read_lens, PageReads};
+ghost use Rattle.slotted_pages.specs.Reads.{step_to, end_of, added, read_lens, page_on, IsPage, PageReads};
 
 use crate::{
     COUNT, FIELD_LEN, FILE_NO, FILE_PAGE, GAP, HEAD_LEN, KIND, LENGTH, MOST_BYTES, SECOND_GAP, ZERO,
 };
-use ex_base::{get_u16, is_zero};
+use ex_base::{get_u16, get_u32, is_zero};
 
 /// Where a slot's body begins.
 pub fn offset_in(page: &[u8], slot: usize) -> usize
@@ -80,6 +80,17 @@ pub fn is_file_page(page: &[u8]) -> bool
         None => false,
         Some(end) => is_zero(&page[end..page.len() - FIELD_LEN * n]),
     }
+}
+
+/// The number of the file that a page names, none where its length or its first byte is that of no file page. No other byte is looked at.
+pub fn file_named(page: &[u8]) -> Option<u32>
+    ensures some { IfSome result (λ file_no. (page_on page.now).file_no ≡ file_no) }
+    ensures none { IfNone result (IsPage page.now → ⊥) }
+{
+    if page.len() < HEAD_LEN || page[KIND] != FILE_PAGE {
+        return None;
+    }
+    Some(get_u32(page, FILE_NO))
 }
 
 /// Where the bodies of the first n slots end by their lengths.
