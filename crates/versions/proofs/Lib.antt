@@ -7,6 +7,7 @@ pub mod Puts
 pub mod Needed
 pub mod Becoming
 pub mod RowsListed
+pub mod PageRows
 pub mod Listed
 pub mod Faults
 pub mod Fed

@@ -2,19 +2,26 @@
 use Rattle.std.proofs.Common.{◌≡◌, ◌≤◌, ◌+◌, ℕ, List, [], ◌∷◌, ◌++◌, Option, Some, None, refl, sym, subst}
 use Rattle.ex_base.specs.declared.ground.Ground as ground
 use Rattle.ex_base.specs.declared.names.Place.{Place}
-use Rattle.ex_base.specs.Ports.{Keeps}
+use Rattle.ex_base.specs.Ports.{Keeps, times}
+use Rattle.ex_base.proofs.Counts.{contains_times}
+use Rattle.slotted_pages.specs.Reads.{IsPage}
+use Rattle.slotted_pages.specs.Edits.{slots_of}
 use Rattle.object_records.specs.Record.{Record, BodyOf}
 use Rattle.ex_base.specs.declared.names.Index.{Index}
-use Rattle.file_bodies.specs.Bodies.{Row, bodies_of}
+use Rattle.file_index.specs.Index.{IsFilesPage}
+use Rattle.file_index.proofs.Picking.{rises_of}
+use Rattle.file_bodies.specs.Bodies.{Row, bodies_of, pages_in}
 use Rattle.file_bodies.specs.Damage.{HasListed, IsLook, page_from, page_in}
 use Rattle.file_bodies.specs.Files.{HasFile, HasBody}
 use Rattle.file_bodies.specs.Places.{IsFirstFrom, FirstFrom, IsNext}
 use Rattle.file_bodies.proofs.Blame.{carried}
-use Rattle.file_bodies.proofs.Moving.{kept_file}
+use Rattle.file_bodies.proofs.Moving.{kept_file, lies}
+use Rattle.file_bodies.proofs.Slots.{page_of}
 use Rattle.file_bodies.proofs.Ordered.{ordered}
 use Rattle.versions.specs.Damage.{ComesNext, IsWalkedOut, IsWalkedTo, at_front}
-use Rattle.versions.specs.Listed.{rank_of, start_rank, AreReadable}
+use Rattle.versions.specs.Listed.{rank_of, rows_on, start_rank, AreReadable}
 use Rattle.versions.proofs.FileRows.{InRows, in_mid, row_stands}
+use Rattle.versions.proofs.PageRows.{PageCut, few_slots, live_within, on_page, page_cut, page_listed}
 use Rattle.versions.proofs.RowsListed.{Gathers, IsShort, IsListed, key_of, slot_of, none_listed, next_listed, all_listed, next_rank, at_mid}
 
 -- the first row from there on, as the record says it
@@ -82,3 +89,22 @@ module _ {S : Type 0} (g : ground.Ghosts S) where
 
       pub one_more : Gathers of → IsListed of (bodies_of (g.image a) index) place.page.0 (place.slot + 1) (items ++ of ((place, first.body) ∷ []))
       one_more gathers = next_listed of gathers (bodies_of (g.image a) index) (key_of after) (slot_of after) items place first (ordered g a index file) (to.listed told index file is)
+
+      named : 1 ≤ times place.page.0 (pages_in (g.image a) index)
+      named = contains_times place.page.0 (pages_in (g.image a) index) stands.named
+
+      pub area : IsFilesPage (g.geometry a) place.page.0
+      area = lies g a index place.page.0 file named
+
+      pub spelled : IsPage (g.image a place.page.0)
+      spelled = (page_of g a index place.page.0 file named).spelled
+
+      cut : PageCut (g.image a) (pages_in (g.image a) index) place.page.0 place.slot
+      cut = page_cut (g.image a) (pages_in (g.image a) index) place.page.0 place.slot (rises_of (pages_in (g.image a) index) file.whole.rising) named
+          (live_within (slots_of (g.image a place.page.0)) place.slot first.body stands.stands) (few_slots (g.image a place.page.0) spelled)
+
+      pub readable_here : AreReadable (bodies_of (g.image a) index) → AreReadable (rows_on place.page.0 place.slot (slots_of (g.image a place.page.0)))
+      readable_here all = on_page (λ (row : Row). (r : Record) × BodyOf row.1 r) (g.image a) (pages_in (g.image a) index) place.page.0 place.slot cut all
+
+      pub page_more : Gathers of → IsListed of (bodies_of (g.image a) index) place.page.0 65536 (items ++ of (rows_on place.page.0 place.slot (slots_of (g.image a place.page.0))))
+      page_more gathers = page_listed of gathers (g.image a) (pages_in (g.image a) index) (key_of after) (slot_of after) items place first (ordered g a index file) cut (to.listed told index file is)

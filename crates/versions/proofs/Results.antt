@@ -1,6 +1,7 @@
 -- What holds of a result that is handed on.
 use Rattle.std.proofs.Common.{◌≡◌, Option, Some, None, Result, Ok, Err, IfErr, OnOk, subst, sym, ap, ◌∙◌}
 use Rattle.std.specs.Prelude.{MatchOption, IfNone, IfSome}
+use Rattle.std.specs.Option.{option_map}
 
 pub match_some : {A : Type 0} (o : Option A) (x : A) (N : Type 0) (P : A → Type 0) → o ≡ Some x → MatchOption o N P → P x
 match_some o x N P is h = subst (λ (p : Option _). MatchOption p N P) is h
@@ -43,3 +44,8 @@ none_then (Some x) P Q f p = p
 pub of_found : {A : Type 0} (o : Option A) (N : Type 0) (P Q : A → Type 0) (R : Type 0) → MatchOption o N P → IfSome o Q → (N → R) → ((x : A) → P x → Q x → R) → R
 of_found None N P Q R found told never there = never found
 of_found (Some x) N P Q R found told never there = there x found told
+
+-- what holds of the image of what is there holds of what the image is
+pub at_image : {A B : Type 0} (f : A → B) (o : Option A) (y : B) (P : B → Type 0) → option_map f o ≡ Some y → IfSome o (λ x. P (f x)) → P y
+at_image f None y P is h = absurd (let e : None ≡ Some y = is in cc)
+at_image f (Some x) y P is h = let e : f x ≡ y = cc in subst P e h

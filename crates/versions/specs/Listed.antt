@@ -1,5 +1,5 @@
 -- The current versions of a file.
-use Rattle.std.specs.Prelude.{ℕ, ◌+◌, ◌*◌, List, [], ◌∷◌, ◌++◌, Option, Some, None, IsSortedByKey}
+use Rattle.std.specs.Prelude.{ℕ, ◌+◌, ◌*◌, List, [], ◌∷◌, ◌++◌, drop, Option, Some, None, IsSortedByKey}
 use Rattle.std.specs.Ordering.{nat_cmp}
 use Rattle.std.specs.List.{AllByRecursion}
 use Rattle.ex_base.specs.declared.names.Oid.{Oid}
@@ -9,7 +9,8 @@ use Rattle.object_records.specs.declared.State.{State}
 use Rattle.object_records.specs.declared.State.TheVariants.{Current, Frozen}
 use Rattle.object_records.specs.Record.{Record, BodyOf}
 use Rattle.object_records.specs.Reads.{record_on}
-use Rattle.file_bodies.specs.Bodies.{Row}
+use Rattle.slotted_pages.specs.FilePage.{Slot}
+use Rattle.file_bodies.specs.Bodies.{Row, bodies_from}
 
 abbrev pub oid_at : Place → ℕ → Oid
 oid_at place unique = record { page = place.page; slot = place.slot; unique = unique }
@@ -26,6 +27,10 @@ oids_in place head = oids_by head.state (oid_at place head.unique)
 abbrev pub oids_of : List Row → List Oid
 oids_of [] = []
 oids_of (row ∷ rows) = oids_in row.0 (record_on row.1).head ++ oids_of rows
+
+-- the rows on a page from a slot on
+abbrev pub rows_on : ℕ → ℕ → List Slot → List Row
+rows_on page from slots = bodies_from page from (drop from slots)
 
 -- in order of unique number
 abbrev pub AreByNumber : List Oid → Type 0

@@ -1,18 +1,23 @@
 //! The objects of a file.
-ghost use Rattle.std.specs.Prelude.{◌≡◌, ◌≤◌, ◌<◌, ◌++◌, ℕ, List, IfOk, IfErr, IfSome, IsSome, OnOk, Some, IsPermutation};
+ghost use Rattle.std.specs.Prelude.{◌≡◌, ◌⊎◌, ◌≤◌, ◌<◌, ◌++◌, ℕ, List, IfOk, IfErr, IfSome, IsSome, OnOk, Some, IsPermutation};
 ghost use Rattle.ex_base.specs.Ports.{Keeps, HasCause, IsDamage};
+ghost use Rattle.slotted_pages.specs.Reads.{IsPage};
+ghost use Rattle.slotted_pages.specs.Edits.{slots_of};
 ghost use Rattle.object_records.specs.Record.{Record, BodyOf};
 ghost use Rattle.object_records.specs.Reads.{record_on};
 ghost use Rattle.ex_base.specs.declared.names.Index.{Index};
-ghost use Rattle.file_bodies.specs.Bodies.{bodies_of};
+ghost use Rattle.ex_base.specs.declared.names.Place.{Place};
+ghost use Rattle.file_index.specs.Index.{IsFilesPage};
+ghost use Rattle.file_bodies.specs.Bodies.{bodies_of, place_at};
 ghost use Rattle.file_bodies.specs.Files.{HasFile, HasBody};
 ghost use Rattle.versions.specs.Damage.{record_fault, IsStepFault, IsListingFault, IsWalkedOut};
-ghost use Rattle.versions.specs.Listed.{oids_in, oids_of, rank_of, start_rank, AreByNumber, AreReadable};
+ghost use Rattle.versions.specs.Listed.{oids_in, oids_of, rows_on, rank_of, start_rank, AreByNumber, AreReadable};
 
-use crate::recorded::{check, no_record, oid_at};
-use ex_base::{Oid, Place, PortFault, ReadVolume};
-use file_bodies::{body_at, next_place};
+use crate::recorded::{no_record, oid_at};
+use ex_base::{Oid, PageNo, Place, PortFault, ReadVolume};
+use file_bodies::{body_there, next_place};
 use object_records::{Head, RecordView, State};
+use slotted_pages::SlottedView;
 use std::alloc::Global;
 
 /// How many slots a page's number counts for in the rank of a place: more than a page may have.
@@ -83,7 +88,7 @@ pub fn head_at<V: ReadVolume>(
     ensures kept { Keeps V.Ground volume.old volume.new }
     ensures cause { HasCause (V.faults volume.old) (V.faults volume.new) result }
 {
-    match body_at(volume, alloc, place) {
+    match body_there(volume, alloc, place) {
         Ok(body) => head_on(body, place),
         Err(fault) => Err(fault),
     }
@@ -104,8 +109,48 @@ fn put_oid(oids: &mut Vec<Oid>, place: Place, head: &Head) -> Result<(), PortFau
     }
 }
 
-/// Puts the OID of the version at a place behind others, where the version is a current one. The place stands behind the one before it.
-fn list_place<V: ReadVolume>(
+/// Puts the OID of the version at a place behind others, where the version is a current one.
+fn list_record(oids: &mut Vec<Oid>, place: Place, body: &[u8]) -> Result<(), PortFault>
+    ensures listed { OnOk result (oids.new.items
+        ≡ oids.old.items ++ oids_in place (record_on body.now).head) }
+    ensures sound { IfErr result (λ fault. IsDamage fault → (is : Record) → BodyOf body.now is → ⊥) }
+    ensures fault { IfErr result (λ fault. (IsDamage fault → ⊥) ⊎ (fault ≡ record_fault place)) }
+    ensures cause { (before now : ℕ) → HasCause before now result }
+{
+    match head_of(body, place) {
+        Ok(head) => put_oid(oids, place, &head),
+        Err(fault) => Err(fault),
+    }
+}
+
+/// Puts the OIDs of the current versions on a page behind others, from a slot on.
+fn list_slots(
+    view: &SlottedView,
+    page: PageNo,
+    from: u16,
+    oids: &mut Vec<Oid>,
+) -> Result<(), PortFault>
+    ensures listed { OnOk result (oids.new.items
+        ≡ oids.old.items ++ oids_of (rows_on page.0 from view.now.page.slots)) }
+    ensures sound { IfErr result (λ fault. IsDamage fault
+        → AreReadable (rows_on page.0 from view.now.page.slots) → ⊥) }
+    ensures fault { IfErr result (λ fault. (IsDamage fault → ⊥)
+        ⊎ ((slot : ℕ) × (fault ≡ record_fault (place_at page.0 slot)))) }
+    ensures cause { (before now : ℕ) → HasCause before now result }
+{
+    for slot in from..view.slots() {
+        if let Some(body) = view.body(slot) {
+            match list_record(oids, Place { page, slot }, body) {
+                Ok(()) => {}
+                Err(fault) => return Err(fault),
+            }
+        }
+    }
+    Ok(())
+}
+
+/// Puts the OIDs of the current versions on the page of a place behind others, from the place on. The place stands behind the one before it.
+fn list_page<V: ReadVolume>(
     volume: &mut V,
     alloc: Global,
     place: Place,
@@ -113,26 +158,37 @@ fn list_place<V: ReadVolume>(
     oids: &mut Vec<Oid>,
 ) -> Result<(), PortFault>
     requires { V.ready volume.old }
-    ensures listed { OnOk result (V.tells volume.old → (index : Index) (body : List ℕ)
-        → HasBody V.Ground volume.old index place body
-        → oids.new.items ≡ oids.old.items ++ oids_in place (record_on body).head) }
+    ensures listed { OnOk result (V.tells volume.old → IsPage (V.image volume.old place.page.0)
+        → oids.new.items ≡ oids.old.items ++ oids_of (rows_on place.page.0 place.slot
+        (slots_of (V.image volume.old place.page.0)))) }
     ensures rises { OnOk result (start_rank after ≤ rank_of place) }
     ensures short { OnOk result (place.slot < 65536) }
     ensures sound { IfErr result (λ fault. IsDamage fault → V.tells volume.old
         → start_rank after ≤ rank_of place
-        → (index : Index) (body : List ℕ) (is : Record)
-        → HasBody V.Ground volume.old index place body → BodyOf body is → ⊥) }
-    ensures fault { IfErr result (λ fault. V.tells volume.old
-        → IsStepFault (V.geometry volume.old) (V.image volume.old) place fault) }
+        → IsFilesPage (V.geometry volume.old) place.page.0
+        → IsPage (V.image volume.old place.page.0)
+        → AreReadable (rows_on place.page.0 place.slot
+        (slots_of (V.image volume.old place.page.0))) → ⊥) }
+    ensures fault { IfErr result (λ fault. V.tells volume.old → (at : Place)
+        × (at.page ≡ place.page)
+        × IsStepFault (V.geometry volume.old) (V.image volume.old) at fault) }
     ensures kept { Keeps V.Ground volume.old volume.new }
     ensures cause { HasCause (V.faults volume.old) (V.faults volume.new) result }
 {
-    check(first_rank(after) <= rank(place), place)?;
-    let head = head_at(volume, alloc, place)?;
-    put_oid(oids, place, &head)
+    if first_rank(after) > rank(place) || !volume.in_area(place.page) {
+        return Err(no_record(place));
+    }
+    let bytes = match volume.get(alloc, place.page) {
+        Ok(bytes) => bytes,
+        Err(fault) => return Err(fault),
+    };
+    match SlottedView::of(bytes) {
+        Some(view) => list_slots(&view, place.page, place.slot, oids),
+        None => Err(no_record(place)),
+    }
 }
 
-/// The OIDs of the current versions of a file, in order of place.
+/// The OIDs of the current versions of a file, in order of place. Each page of the file is looked for and tested once for all that stands on it.
 fn list_file<V: ReadVolume>(
     volume: &mut V,
     alloc: Global,
@@ -154,17 +210,20 @@ fn list_file<V: ReadVolume>(
 {
     let mut oids = Vec::new(alloc);
     let mut after = None;
-    'places: loop {
+    'pages: loop {
         let place = match next_place(volume, alloc, file_no, after) {
             Ok(Some(place)) => place,
             Ok(None) => return Ok(oids),
             Err(fault) => return Err(fault),
         };
-        match list_place(volume, alloc, place, after, &mut oids) {
+        match list_page(volume, alloc, place, after, &mut oids) {
             Ok(()) => {}
             Err(fault) => return Err(fault),
         }
-        after = Some(place);
+        after = Some(Place {
+            page: place.page,
+            slot: u16::MAX,
+        });
     }
 }
 

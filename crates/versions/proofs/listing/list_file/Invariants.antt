@@ -3,8 +3,8 @@ use Rattle.versions.specs.Listed.{oids_of, start_rank}
 use Rattle.versions.proofs.Listed.{ListedTo}
 use Rattle.versions.proofs.listing.list_file.Given as goal
 
-abbrev pub invariant-places : goal.invariant-places
-invariant-places g l = ListedTo g.V.Ground oids_of l.initial.volume l.volume l.file_no l.after l.oids.items
+abbrev pub invariant-pages : goal.invariant-pages
+invariant-pages g l = ListedTo g.V.Ground oids_of l.initial.volume l.volume l.file_no l.after l.oids.items
 
-abbrev pub decreases-places : goal.decreases-places
-decreases-places g l = 281474976710656 - start_rank l.after
+abbrev pub decreases-pages : goal.decreases-pages
+decreases-pages g l = 281474976710656 - start_rank l.after
