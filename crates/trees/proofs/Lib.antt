@@ -29,6 +29,7 @@ pub mod NodeLaws
 pub mod Children
 pub mod WriteLaws
 pub mod Rising
+pub mod LeafRises
 pub mod NameLaws
 pub mod Placed
 pub mod Lengths

@@ -1,6 +1,7 @@
 // The node on a lent page: that it is the one that its parent asks, and its children.
-ghost use Rattle.std.specs.Prelude.{◌≡◌, ◌≤◌, ◌<◌, ◌-◌, ◌^◌, ◌↔◌, List, length, take, drop, IfOk, IfErr, OnOk, IsTrue, ℕ};
+ghost use Rattle.std.specs.Prelude.{◌≡◌, ◌≤◌, ◌<◌, ◌-◌, ◌^◌, ◌↔◌, List, length, take, drop, IfOk, IfErr, IfSome, OnOk, IsTrue, ℕ};
 ghost use Rattle.trees.specs.Node.{RiseFrom, node_on, total_of};
+ghost use Rattle.trees.specs.Reads.{NodeReads};
 ghost use Rattle.ex_base.specs.declared.geometry.Geometry.{Geometry as GeometryOf};
 ghost use Rattle.ex_base.specs.Ports.{HasCause};
 ghost use Rattle.trees.specs.Damage.{IsNodeFault};
@@ -9,7 +10,9 @@ ghost use Rattle.trees.specs.Rows.{parts_of, AreHalfFull, IsFilled, IsRowOn};
 use crate::faults::no_node;
 use crate::rows::Part;
 use crate::view::NodeView;
-use ex_base::{Geometry, PortFault, Seen};
+use crate::wide::{is_wide, wide_leaves_fit};
+use crate::{LEN_AT, PAIRS_AT};
+use ex_base::{Geometry, PortFault, Seen, get_u16};
 use std::alloc::{AllocError, Global};
 
 /// Whether each leaf below a node is half full.
@@ -60,8 +63,8 @@ pub(crate) fn check_asked(
     Ok(())
 }
 
-/// The node that stands on a page, where it is the one that its parent asks.
-pub(crate) fn asked_node<'a>(
+/// The node that stands on a page, where it is the one that its parent asks: a test for each thing that is asked.
+fn tested_node<'a>(
     bytes: &'a [u8],
     geometry: &Geometry,
     level: u8,
@@ -87,6 +90,53 @@ pub(crate) fn asked_node<'a>(
         return Err(no_node(part.page, level, part.size));
     }
     Ok(node)
+}
+
+/// The node over leaves that stands on a page, where its counts are wide and each of its leaves is half full: one pass tests both that counts rise and that
+/// leaves are filled. A page that it doesn't take may still be a node.
+fn wide_node<'a>(page: &'a [u8], fan: u32, full: u32) -> Option<NodeView<'a>>
+    requires fan { fan ≤ 340 }
+    requires some { 2 ≤ full }
+    ensures view { IfSome result (λ node. node ≡ node_on page.now) }
+    ensures reads { IfSome result (λ _. NodeReads fan page.now) }
+    ensures halves { IfSome result (λ node. AreHalfFull full (parts_of 0 node.pairs)) }
+{
+    if !is_wide(page, fan) {
+        return None;
+    }
+    let n = get_u16(page, LEN_AT) as usize;
+    if !wide_leaves_fit(&page[PAIRS_AT..], n, full) {
+        return None;
+    }
+    Some(NodeView::over(page))
+}
+
+/// The node that stands on a page, where it is the one that its parent asks.
+pub(crate) fn asked_node<'a>(
+    bytes: &'a [u8],
+    geometry: &Geometry,
+    level: u8,
+    part: Part,
+    least: u32,
+) -> Result<NodeView<'a>, PortFault>
+    ensures view { IfOk result (λ node. node ≡ node_on bytes.now) }
+    ensures row { IfOk result
+        (λ node. IsRowOn geometry.now bytes.now level part.size (parts_of 0 node.pairs)) }
+    ensures filled { IfOk result
+        (λ node. IsFilled geometry.now level least (parts_of 0 node.pairs)) }
+    ensures few { IfOk result (λ node. length node.pairs < 2 ^ 32) }
+    ensures limit { IfOk result (λ node. total_of node.pairs < 2 ^ 64) }
+    ensures fault { IfErr result
+        (IsNodeFault geometry.now bytes.now level part.size least part.page.0) }
+    ensures cause { (before now : ℕ) → HasCause before now result }
+{
+    if level == 1 {
+        if let Some(node) = wide_node(bytes, geometry.fan, geometry.leaf_bytes()) {
+            check_asked(&node, level, part, least)?;
+            return Ok(node);
+        }
+    }
+    tested_node(bytes, geometry, level, part, least)
 }
 
 /// The children of a node.

@@ -19,6 +19,7 @@ mod shape_laws;
 mod spans;
 pub mod split;
 pub mod view;
+mod wide;
 pub mod width;
 pub mod write;
 

@@ -8,6 +8,7 @@ use crate::faults::no_node;
 use crate::lent_nodes::check_asked;
 use crate::reads::row_of_page;
 use crate::view::NodeView;
+use crate::wide::wide_row;
 use ex_base::{Geometry, PageNo, PortFault, ReadBlocks};
 use std::alloc::{AllocError, Global};
 
@@ -47,8 +48,8 @@ fn are_filled(row: &[Part], full: u32) -> bool
     true
 }
 
-/// The children that stand on a page, where it is the node that its parent asks.
-fn row_on(
+/// The children that stand on a page, where it is the node that its parent asks: a test for each thing that is asked.
+fn tested_row(
     alloc: Global,
     bytes: &[u8],
     geometry: &Geometry,
@@ -70,6 +71,30 @@ fn row_on(
         return Err(no_node(part.page, level, part.size));
     }
     Ok(row)
+}
+
+/// The children that stand on a page, where it is the node that its parent asks.
+fn row_on(
+    alloc: Global,
+    bytes: &[u8],
+    geometry: &Geometry,
+    level: u8,
+    part: Part,
+    least: u32,
+) -> Result<Vec<Part>, PortFault>
+    ensures counted { IfOk result (λ row. IsCounted geometry.now level part.size least row.items) }
+    ensures found { IfOk result (λ row. IsRowOn geometry.now bytes.now level part.size row.items) }
+    ensures fault { IfErr result
+        (IsNodeFault geometry.now bytes.now level part.size least part.page.0) }
+    ensures cause { (before now : ℕ) → HasCause before now result }
+{
+    if level == 1 {
+        if let Some(row) = wide_row(alloc, bytes, geometry.fan, geometry.leaf_bytes())? {
+            check_asked(&NodeView::over(bytes), level, part, least)?;
+            return Ok(row);
+        }
+    }
+    tested_row(alloc, bytes, geometry, level, part, least)
 }
 
 /// The children of a node of a level, which has at least so many: the fan, or 2 where it is a root. A page that isn't this node, as its parent names
