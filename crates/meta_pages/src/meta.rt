@@ -213,8 +213,8 @@ impl Meta {
         self.working.clear();
     }
 
-    // The working image of a page, or None where it is what the disk holds.
-    fn shown(&self, page: PageNo) -> Option<&[u8]>
+    /// Lends the working image of a page, or None where it is what the disk holds.
+    pub fn shown(&self, page: PageNo) -> Option<&[u8]>
         ensures value { option_copied result ≡ image_at self.now page.0 }
         ensures len { IfSome result (λ s. length s.now ≡ self.now.geometry.page_size) }
     {

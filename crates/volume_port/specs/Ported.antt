@@ -7,6 +7,8 @@ use Rattle.std.specs.Map.{lookup}
 use Rattle.ex_base.specs.declared.geometry.Geometry.{Geometry}
 use Rattle.ex_base.specs.declared.ground.Ground as ground
 use Rattle.ex_base.specs.Area.{area_end, catalog_no}
+use Rattle.buffer_groups.specs.Frames.{Frames}
+use Rattle.buffer_groups.specs.Groups.{HasFrame}
 use Rattle.meta_pages.specs.Overlays.{Overlays, image_at}
 use Rattle.tree_store.specs.Stored.{NoUnit}
 use Rattle.volume_port.specs.Logged.{LoggedSet, is_held}
@@ -22,6 +24,10 @@ image_over g meta unit page = if in_pages g page then unwrap_or (image_at meta p
 -- a page that the working state has is used
 abbrev pub IsUsed : (ℕ → Bool) → LoggedSet → ℕ → Type 0
 IsUsed used pages page = is_held pages page ≡ true → used page ≡ true
+
+-- a page is at hand: the overlay has an image of it, or the group at an index a frame
+abbrev pub IsAtHand : Overlays → List Frames → ℕ → ℕ → Type 0
+IsAtHand meta groups index page = image_at meta page ≡ None → HasFrame groups index page
 
 -- The store is ready, and all parts are of its geometry. The working state has the catalog, and each page that it has is used. Of the touched pages it
 -- has just those with an image.

@@ -1,5 +1,5 @@
 -- The meanings of a port for reading alone.
-use Rattle.std.specs.Prelude.{◌≡◌, ◌≤◌, ◌<◌, ℕ, List, length, All, refl, IsSome}
+use Rattle.std.specs.Prelude.{◌≡◌, ◌≢◌, ◌≤◌, ◌<◌, ℕ, List, length, All, refl, IsSome, slice_get}
 use Rattle.std.proofs.Common.{◌∙◌, sym, subst, ap, arith}
 use Rattle.std.specs.Borrow.{MutBor}
 use Rattle.ex_base.specs.declared.geometry.Geometry.{Geometry}
@@ -25,8 +25,12 @@ pub record CanRead (g : Geometry) (disk_size : ℕ) (groups : List Frames) (inde
   pub behind : AreFromCatalog groups
   pub overlay : meta.geometry ≡ g
 
--- An earlier and a later state of a port for reading alone, over the same borrowed parts: the disk was read at most, and nothing changed but frames,
--- in groups of the kinds that they were, and the room.
+-- No group but the one at the index changed.
+abbrev pub OthersStay : ℕ → List Frames → List Frames → Type 0
+OthersStay index old new = (other : ℕ) → other ≢ index → slice_get new other ≡ slice_get old other
+
+-- An earlier and a later state of a port for reading alone, over the same borrowed parts: the disk was read at most, and nothing changed but frames of the
+-- port's group, in groups of the kinds that they were, and the room.
 pub record Reads {D : Type 0} (outside : D → Outside) (d e : MutBor D) (f h : MutBor (List Frames)) (r t : MutBor (List ℕ)) (i j : ℕ) (a b : Geometry)
     (m n : Overlays) (k l : LoggedSet) : Type 0 where
   pub disk : e.ghost_name ≡ d.ghost_name
@@ -39,6 +43,7 @@ pub record Reads {D : Type 0} (outside : D → Outside) (d e : MutBor D) (f h : 
   pub only : ReadsOnly (outside d.now) (outside e.now)
   pub sizes : (size : ℕ) → All (λ (x : Frames). x.page_size ≡ size) f.now → All (λ (x : Frames). x.page_size ≡ size) h.now
   pub kinds : SameKinds f.now h.now
+  pub others : OthersStay i f.now h.now
   pub behind : AreFromCatalog f.now → AreFromCatalog h.now
   pub told : TellsBytes (outside d.now) f.now → TellsBytes (outside e.now) h.now
 
@@ -56,6 +61,7 @@ module _ {D : Type 0} (outside : D → Outside) where
     only = reads_refl (outside d.now);
     sizes = λ size h. h;
     kinds = refl;
+    others = λ other apart. refl;
     behind = λ h. h;
     told = λ h. h;
   }
@@ -73,6 +79,7 @@ module _ {D : Type 0} (outside : D → Outside) where
     only = reads_trans one.only two.only;
     sizes = λ size is. two.sizes size (one.sizes size is);
     kinds = two.kinds ∙ one.kinds;
+    others = λ other apart. two.others other (λ same. apart (same ∙ one.index)) ∙ one.others other apart;
     behind = λ is. two.behind (one.behind is);
     told = λ is. two.told (one.told is);
   }

@@ -5,34 +5,45 @@ ghost use Rattle.ex_base.specs.Area.{InPageArea, catalog_no};
 ghost use Rattle.ex_base.specs.Ports.{Keeps, HasCause, IsDamage, IsLowest, TakesPage, GivesPage};
 ghost use Rattle.ex_base.specs.declared.names.Area.TheVariants.{Page, Segment};
 ghost use Rattle.page_alloc.specs.UnitSet.{used_at};
+ghost use Rattle.volume_port.specs.Ported.{IsAtHand};
 
 use crate::port::VolumePort;
-use crate::reading_port::read_page;
 use disk_model::Disk;
 use ex_base::{Area, Ground, PageNo, Pages, PortFault, ReadPages, ReadVolume, Volume};
 use std::alloc::Global;
 
 impl<'a, D: Disk> VolumePort<'a, D> {
-    // Copies a page, as the transaction has it, into the room.
-    fn fill(&mut self, alloc: Global, page: PageNo) -> Result<(), PortFault>
+    // Brings a page into a frame of the store's group, where the overlay has no image of it.
+    fn reach(&mut self, alloc: Global, page: PageNo) -> Result<(), PortFault>
         requires ready { ⟦<VolumePort<'a, D> as Ground>⟧.ready self.old }
         requires page { InPageArea self.old.store.geometry page.0 }
-        ensures bytes { OnOk result (⟦<VolumePort<'a, D> as Ground>⟧.tells self.old
-            → self.new.room.now ≡ ⟦<VolumePort<'a, D> as Ground>⟧.image self.old page.0) }
-        ensures len { OnOk result (length self.new.room.now ≡ self.old.store.geometry.page_size) }
+        ensures held { OnOk result (IsAtHand self.new.meta.now
+            self.new.store.groups.now self.new.store.index page.0) }
         ensures kept { Keeps ⟦<VolumePort<'a, D> as Ground>⟧ self.old self.new }
         ensures no_damage { IfErr result (λ fault. IsDamage fault → ⊥) }
         ensures cause { HasCause (⟦<VolumePort<'a, D> as Ground>⟧.faults self.old)
             (⟦<VolumePort<'a, D> as Ground>⟧.faults self.new) result }
     {
-        read_page(&mut self.store, self.meta, alloc, page, self.room)
+        if self.meta.shown(page).is_some() {
+            return Ok(());
+        }
+        self.store.bring(alloc, page)
     }
 
-    // The bytes in the room.
-    fn filled(&self) -> &[u8]
-        ensures { result.now ≡ self.now.room.now }
+    // Lends a page that is at hand, as the transaction has it.
+    fn shown(&self, page: PageNo) -> &[u8]
+        requires ready { ⟦<VolumePort<'a, D> as Ground>⟧.ready self.now }
+        requires page { InPageArea self.now.store.geometry page.0 }
+        requires held { IsAtHand self.now.meta.now
+            self.now.store.groups.now self.now.store.index page.0 }
+        ensures bytes { ⟦<VolumePort<'a, D> as Ground>⟧.tells self.now
+            → result.now ≡ ⟦<VolumePort<'a, D> as Ground>⟧.image self.now page.0 }
+        ensures len { length result.now ≡ self.now.store.geometry.page_size }
     {
-        self.room.bytes()
+        match self.meta.shown(page) {
+            Some(image) => image,
+            None => self.store.frame(page),
+        }
     }
 }
 
@@ -46,8 +57,8 @@ impl<'a, D: Disk> ReadPages for VolumePort<'a, D> {
     }
 
     fn get(&mut self, alloc: Global, page: PageNo) -> Result<&[u8], PortFault> {
-        self.fill(alloc, page)?;
-        Ok(self.filled())
+        self.reach(alloc, page)?;
+        Ok(self.shown(page))
     }
 }
 

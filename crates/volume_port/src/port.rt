@@ -14,7 +14,7 @@ pub struct VolumePort<'a, D: Disk> {
     pub store: Store<'a, D>,
     pub meta: &'a mut Meta,
     pub pages: &'a mut LoggedPages,
-    /// Room for the bytes of the page that was lent last.
+    /// Room for a copy of a page, which no call fills.
     pub room: &'a mut PageRoom,
 }
 

@@ -1,83 +1,21 @@
-//! A port for reading alone, and how a logged page is read as the open transaction has it.
-ghost use Rattle.std.specs.Prelude.{◌≡◌, ◌≤◌, ◌<◌, ◌+◌, ◌*◌, ◌↔◌, ℕ, List, All, Some, None, length, false, IsTrue, OnOk, IfErr, IsOk};
-ghost use Rattle.ex_base.specs.Area.{InPageArea, NamesLeaf, catalog_no};
+//! A port for reading alone.
+ghost use Rattle.std.specs.Prelude.{◌≡◌, ◌≤◌, ◌<◌, ◌+◌, ◌↔◌, length, false, IsTrue, OnOk, IfErr, IsOk};
+ghost use Rattle.ex_base.specs.Area.{InPageArea, NamesLeaf};
 ghost use Rattle.ex_base.specs.Bytes.{bytes_at};
 ghost use Rattle.ex_base.specs.Ports.{Keeps, HasCause, IsDamage};
 ghost use Rattle.ex_base.specs.Sizes.{leaf_bytes};
-ghost use Rattle.disk_model.specs.Outside.{Outside, ReadsOnly};
 ghost use Rattle.disk_model.specs.Calls.{MakesCalls, MakesAtMost};
-ghost use Rattle.buffer_groups.specs.Groups.{HasFrame, LacksFrame, GroupsKeep};
+ghost use Rattle.buffer_groups.specs.Groups.{HasFrame, LacksFrame};
 ghost use Rattle.volume_port.specs.LeafPieces.{MayHaveFrame, IsKept, home_bytes, piece_page};
-ghost use Rattle.buffer_groups.specs.Cause.{HasFetchCause};
-ghost use Rattle.buffer_groups.specs.Frames.{Frames, Lends, page_of};
-ghost use Rattle.meta_pages.specs.Overlays.{image_at};
-ghost use Rattle.tree_store.specs.Stored.{AreFromCatalog};
-ghost use Rattle.volume_port.specs.Ported.{image_over};
+ghost use Rattle.volume_port.specs.Ported.{IsAtHand};
 
 use crate::logged::LoggedPages;
 use crate::room::PageRoom;
-use buffer_groups::{FetchFault, Groups};
+use buffer_groups::Groups;
 use disk_model::Disk;
 use ex_base::{Geometry, Ground, PageNo, PortFault, ReadBlocks, ReadPages, ReadVolume};
 use meta_pages::Meta;
 use std::alloc::Global;
-use tree_store::Store;
-
-/// Copies the working image of a page into `room`.
-pub(crate) fn read_page<'a, D: Disk>(
-    store: &mut Store<'a, D>,
-    meta: &Meta,
-    alloc: Global,
-    page: PageNo,
-    room: &mut PageRoom,
-) -> Result<(), PortFault>
-    requires ready { ⟦<Store<'a, D> as Ground>⟧.ready store.old }
-    requires geometry { meta.now.geometry ≡ store.old.geometry }
-    requires page { InPageArea store.old.geometry page.0 }
-    ensures bytes { OnOk result (⟦<Store<'a, D> as Ground>⟧.tells store.old
-        → room.new ≡ image_over store.old.geometry meta.now
-        (⟦<Store<'a, D> as Ground>⟧.unit store.old) page.0) }
-    ensures len { OnOk result (length room.new ≡ store.old.geometry.page_size) }
-    ensures kept { Keeps ⟦<Store<'a, D> as Ground>⟧ store.old store.new }
-    ensures no_damage { IfErr result (λ fault. IsDamage fault → ⊥) }
-    ensures cause { HasCause (D.outside store.old.disk.now).disk_faults
-        (D.outside store.new.disk.now).disk_faults result }
-{
-    let index = store.index;
-    read_image(store.groups, index, meta, alloc, store.disk, page, room)?;
-    Ok(())
-}
-
-/// Copies the working image of a page into `room`: that of the overlay, and else the disk's page, which is brought into the group at the index.
-pub(crate) fn read_image<D: Disk>(
-    groups: &mut Groups,
-    index: u32,
-    meta: &Meta,
-    alloc: Global,
-    disk: &mut D,
-    page: PageNo,
-    room: &mut PageRoom,
-) -> Result<(), FetchFault>
-    requires index { index < length groups.old }
-    requires sizes { All (λ (f : Frames). f.page_size ≡ meta.now.geometry.page_size) groups.old }
-    requires range { (page.0 + 1) * meta.now.geometry.page_size ≤ (D.outside disk.old).size }
-    requires page { catalog_no ≤ page.0 }
-    ensures logged { OnOk result ((b : List ℕ) → image_at meta.now page.0 ≡ Some b → room.new ≡ b) }
-    ensures home { OnOk result (image_at meta.now page.0 ≡ None
-        → All (Lends (D.outside disk.old).disk) groups.old
-        → (held : List ℕ) → (D.outside disk.old).disk ≡ Some held
-        → room.new ≡ page_of held meta.now.geometry.page_size page.0) }
-    ensures len { OnOk result (length room.new ≡ meta.now.geometry.page_size) }
-    ensures keeps { GroupsKeep (D.outside disk.old).disk groups.old groups.new }
-    ensures behind { AreFromCatalog groups.old → AreFromCatalog groups.new }
-    ensures only { ReadsOnly (D.outside disk.old) (D.outside disk.new) }
-    ensures cause { HasFetchCause (D.outside disk.old).disk_faults
-        (D.outside disk.new).disk_faults result }
-{
-    let image = Meta::image(groups.at(index), meta, alloc, disk, page)?;
-    room.fill(image)?;
-    Ok(())
-}
 
 /// The units and the logged pages of a session, lent for reading alone: of the disk nothing is written. It tells of no unit as used, of no reference and
 /// of no free unit.
@@ -85,7 +23,7 @@ pub(crate) fn read_image<D: Disk>(
 pub struct ReadingPort<'a, D: Disk> {
     pub disk: &'a mut D,
     pub groups: &'a mut Groups,
-    /// Room for the bytes of the page that was lent last.
+    /// Room for a copy of a page, which no call fills.
     pub room: &'a mut PageRoom,
     /// The group that pages are read through.
     pub index: u32,
@@ -162,29 +100,36 @@ impl<'a, D: Disk> Ground for ReadingPort<'a, D> {
 }
 
 impl<'a, D: Disk> ReadingPort<'a, D> {
-    // Copies a page, as the session has it, into the room.
-    fn fill(&mut self, alloc: Global, page: PageNo) -> Result<(), PortFault>
+    // Brings a page into a frame of the group, where the overlay has no image of it.
+    fn reach(&mut self, alloc: Global, page: PageNo) -> Result<(), PortFault>
         requires ready { ⟦<ReadingPort<'a, D> as Ground>⟧.ready self.old }
         requires page { InPageArea self.old.geometry page.0 }
-        ensures bytes { OnOk result (⟦<ReadingPort<'a, D> as Ground>⟧.tells self.old
-            → self.new.room.now ≡ ⟦<ReadingPort<'a, D> as Ground>⟧.image self.old page.0) }
-        ensures len { OnOk result (length self.new.room.now ≡ self.old.geometry.page_size) }
+        ensures held { OnOk result (IsAtHand self.new.meta.now
+            self.new.groups.now self.new.index page.0) }
         ensures kept { Keeps ⟦<ReadingPort<'a, D> as Ground>⟧ self.old self.new }
         ensures no_damage { IfErr result (λ fault. IsDamage fault → ⊥) }
         ensures cause { HasCause (⟦<ReadingPort<'a, D> as Ground>⟧.faults self.old)
             (⟦<ReadingPort<'a, D> as Ground>⟧.faults self.new) result }
     {
-        let index = self.index;
-        read_image(
-            self.groups,
-            index,
-            self.meta,
-            alloc,
-            self.disk,
-            page,
-            self.room,
-        )?;
-        Ok(())
+        if self.meta.shown(page).is_some() {
+            return Ok(());
+        }
+        self.bring(alloc, page)
+    }
+
+    // Lends a page that is at hand, as the session has it.
+    fn shown(&self, page: PageNo) -> &[u8]
+        requires ready { ⟦<ReadingPort<'a, D> as Ground>⟧.ready self.now }
+        requires page { InPageArea self.now.geometry page.0 }
+        requires held { IsAtHand self.now.meta.now self.now.groups.now self.now.index page.0 }
+        ensures bytes { ⟦<ReadingPort<'a, D> as Ground>⟧.tells self.now
+            → result.now ≡ ⟦<ReadingPort<'a, D> as Ground>⟧.image self.now page.0 }
+        ensures len { length result.now ≡ self.now.geometry.page_size }
+    {
+        match self.meta.shown(page) {
+            Some(image) => image,
+            None => self.frame(page),
+        }
     }
 
     // Brings a page into a frame of the group. A page that has one makes no disk call, and another one makes one.
@@ -267,13 +212,6 @@ impl<'a, D: Disk> ReadingPort<'a, D> {
         out.copy_from_slice(&self.frame(page)[at..at + len]);
         Ok(())
     }
-
-    // The bytes in the room.
-    fn filled(&self) -> &[u8]
-        ensures { result.now ≡ self.now.room.now }
-    {
-        self.room.bytes()
-    }
 }
 
 impl<'a, D: Disk> ReadBlocks for ReadingPort<'a, D> {
@@ -350,8 +288,8 @@ impl<'a, D: Disk> ReadPages for ReadingPort<'a, D> {
     }
 
     fn get(&mut self, alloc: Global, page: PageNo) -> Result<&[u8], PortFault> {
-        self.fill(alloc, page)?;
-        Ok(self.filled())
+        self.reach(alloc, page)?;
+        Ok(self.shown(page))
     }
 }
 

@@ -4,7 +4,7 @@ ghost use Rattle.std.specs.Prelude.{◌≡◌, [], OnOk, OnErr};
 use std::alloc::{AllocError, Global};
 use std::marker::Model;
 
-/// The bytes of the page that a port lent last. Memory for them is taken with the first page. Contracts see the bytes.
+/// Room for a copy of a page's bytes. No port fills it: a page is lent where it stands. Contracts see the bytes.
 #[derive(Drop)]
 pub struct PageRoom {
     bytes: Vec<u8>,

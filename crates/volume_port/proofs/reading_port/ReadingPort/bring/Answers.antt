@@ -2,7 +2,7 @@ use Rattle.std.proofs.Common.{refl, ap, Option, List, ℕ}
 use Rattle.tree_store.specs.Stored.{unit_bytes}
 use Rattle.tree_store.proofs.Forgetting.{groups_brought, groups_not_brought}
 use Rattle.volume_port.specs.Ported.{image_over}
-use Rattle.volume_port.proofs.ReadingAlone.{told_along}
+use Rattle.volume_port.proofs.ReadingAlone.{others_at, told_along}
 use Rattle.volume_port.proofs.reading_port.ReadingPort.bring.Goals as goal
 
 pub returns-clause-kept : goal.returns-clause-kept
@@ -28,6 +28,7 @@ returns-clause-kept g c =
         only = brought.only;
         sizes = brought.keeps.sizes;
         kinds = brought.keeps.kinds;
+        others = others_at s.groups.now s.index c.in_ok-bring.ensures.ok.after c.in_ok-bring.ensures.ok.groups;
         behind = groups_brought (g.D.World.outside s.disk.now).disk s.groups.now _ s.index c.args.page.0 c.requires.ready.group c.requires.page.0 c.in_ok-bring.ensures.ok;
         told = told_along (g.D.World.outside s.disk.now) _ s.groups.now _ brought.only brought.keeps;
       };
@@ -56,6 +57,7 @@ returns-in_err-bring-clause-kept g c =
         only = brought.only;
         sizes = brought.keeps.sizes;
         kinds = brought.keeps.kinds;
+        others = others_at s.groups.now s.index c.in_err-bring.ensures.err.after c.in_err-bring.ensures.err.groups;
         behind = groups_not_brought s.groups.now _ s.index c.args.page.0 c.requires.ready.group c.in_err-bring.ensures.err;
         told = told_along (g.D.World.outside s.disk.now) _ s.groups.now _ brought.only brought.keeps;
       };
