@@ -1,8 +1,11 @@
 -- The open scans of a session, each with the group of frames that it reads through.
-use Rattle.std.specs.Prelude.{◌≡◌, ◌≤◌, ℕ, Bool, List, IfSome, bytes_eq, position, slice_get, Option, Some}
+use Rattle.std.specs.Prelude.{◌≡◌, ◌≤◌, ◌<◌, ◌+◌, ℕ, Bool, List, IfSome, bytes_eq, position, slice_get, Option, Some}
 use Rattle.ex_base.specs.declared.geometry.Geometry.{Geometry}
 use Rattle.scans.specs.Scans.{Position, scan_size, next_len, moved_by}
+use Rattle.ex_base.specs.Area.{NamesLeaf}
+use Rattle.trees.specs.Damage.{IsSoundRoot}
 use Rattle.trees.specs.Roots.{IsRootFor}
+use Rattle.trees.specs.Trees.{Units}
 use Rattle.volume_model.specs.Held.{HeldScan}
 
 -- an open scan and the index of its group: `main` is the first of the groups
@@ -44,6 +47,11 @@ given_len n row = next_len n (position_of row.scan)
 -- the scan behind what it gives next, where so many bytes are asked
 abbrev pub row_after : ℕ → OpenRow → OpenRow
 row_after n row = at_position row.scan.name row.group (moved_by (given_len n row) (position_of row.scan))
+
+-- On the way down from the root of a scan, where it has one, to each of the bytes that it gives next where so many are asked, each node and the leaf at its
+-- end are what names them.
+abbrev pub HasSoundRest : Geometry → Units → ℕ → Position → Type 0
+HasSoundRest g units n place = IfSome place.root (λ root. (byte : ℕ) → place.pos ≤ byte → byte < place.pos + next_len n place → IsSoundRoot g units (NamesLeaf g) root byte byte)
 
 -- A fact of the scan at an index.
 abbrev pub AtRow : List OpenRow → ℕ → (OpenRow → Type 0) → Type 0

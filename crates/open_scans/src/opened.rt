@@ -5,7 +5,7 @@ ghost use Rattle.ex_base.specs.Bytes.{bytes_at};
 ghost use Rattle.ex_base.specs.Ports.{Keeps, HasCause, IsDamage};
 ghost use Rattle.ex_base.specs.declared.faults.PortFault.TheVariants.{Memory};
 ghost use Rattle.ex_base.specs.declared.names.Root.{Root};
-ghost use Rattle.open_scans.specs.OpenScans.{is_named};
+ghost use Rattle.open_scans.specs.OpenScans.{HasSoundRest, is_named};
 ghost use Rattle.scans.specs.Scans.{Opened, next_len, moved_by};
 ghost use Rattle.table_model.specs.Machines.{scans_most};
 ghost use Rattle.trees.specs.Damage.{IsRootFault, IsWhole};
@@ -80,6 +80,9 @@ impl OpenScan {
             → Opened (B.geometry blocks.old) (B.unit blocks.old) (position_of self.old.scan) opened
             → given.items ≡ bytes_at opened self.old.scan.pos (given_len n self.old)) }
         ensures len { IfOk result (λ given. length given.items ≡ given_len n self.old) }
+        ensures way { OnOk result (B.tells blocks.old
+            → HasSoundRest (B.geometry blocks.old) (B.unit blocks.old) n
+            (position_of self.old.scan)) }
         ensures fault { IfErr result (λ fault. B.tells blocks.old
             → IfSome self.old.scan.root (λ root.
             IsRootFault (B.geometry blocks.old) (B.unit blocks.old) root fault)) }
@@ -116,6 +119,8 @@ fn copy_next<B: ReadBlocks>(
     ensures bytes { OnOk result (B.tells blocks.old → (opened : List ℕ)
         → Opened (B.geometry blocks.old) (B.unit blocks.old) scan.old opened
         → out.new ≡ bytes_at opened scan.old.pos (next_len n scan.old)) }
+    ensures way { OnOk result (B.tells blocks.old
+        → HasSoundRest (B.geometry blocks.old) (B.unit blocks.old) n scan.old) }
     ensures fault { IfErr result (λ fault. B.tells blocks.old → IfSome scan.old.root (λ root.
         IsRootFault (B.geometry blocks.old) (B.unit blocks.old) root fault)) }
     ensures sound { IfErr result (λ fault. IsDamage fault → B.tells blocks.old → (root : Root)
@@ -256,6 +261,9 @@ impl OpenScans {
             → given.items ≡ bytes_at opened row.scan.pos (given_len n row))) }
         ensures len { IfOk result
             (λ given. AtRow self.old index (λ row. length given.items ≡ given_len n row)) }
+        ensures way { OnOk result (B.tells blocks.old
+            → AtRow self.old index (λ row. HasSoundRest (B.geometry blocks.old)
+            (B.unit blocks.old) n (position_of row.scan))) }
         ensures fault { IfErr result (λ fault. B.tells blocks.old
             → AtRow self.old index (λ row. IfSome row.scan.root (λ root.
             IsRootFault (B.geometry blocks.old) (B.unit blocks.old) root fault))) }

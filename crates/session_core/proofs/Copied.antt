@@ -32,7 +32,8 @@ use Rattle.session_core.specs.declared.updates.copying.Copying.TheVariants as co
 use Rattle.session_core.specs.Performed.{copies}
 use Rattle.volume_edits.specs.TableUpdates.{AsksCopy, BecomesVolume, TakesNeed, TakesWithin}
 use Rattle.table_model.specs.Needs.{pages_need}
-use Rattle.session_core.specs.Performed.{Updates}
+use Rattle.session_core.specs.Performed.{LeavesShaped, Updates}
+use Rattle.session_core.proofs.Contents.{copy_since, counted_content, derive_shares, freeze_shares}
 use Rattle.volume_edits.specs.TableUpdates.{Derives as DerivesVersion, Freezes as FreezesVersion}
 
 -- a copy may take sixteen pages
@@ -106,6 +107,27 @@ module _ {S : Type 0} (g : ground.Ghosts S) (old new : S) (oid : Oid) (unique : 
               (derives told at.index is has (in_file tells at.index is has)));
           sound = tt;
         }
+
+      -- the version and its copy have the content that it had
+      pub frozen_shaped : (made : Oid) → (g.tells now → AreLinked g now → (index : Index) (is : Record) → HasRecord g now index oid is → index.file_no ≡ room_no → Freezes g now new index (place_of oid) is made)
+          → LeavesShaped g old new (FreezesVersion oid unique) made
+      frozen_shaped made freezes records v tells vol asks =
+          let writes = counts_now tells in
+          let at = found g old now records v vol oid false unique asks writes in
+          let has = its_record g old now records v vol oid false unique asks writes in
+          let is = own g old now records v vol oid false unique asks writes in
+          copy_since oid made (counted_content g old now (catalog_numbered (unique + 1) (catalog_on (g.image old catalog_no))) at.index oid is writes has)
+          (freeze_shares g now new at.index oid made is has (freezes (tells_now tells) (linked g old now records v vol oid false unique asks writes) at.index is has (in_file tells at.index is has)))
+
+      pub derived_shaped : (made : Oid) → (g.tells now → (index : Index) (is : Record) → HasRecord g now index oid is → index.file_no ≡ room_no → Derives g now new index (place_of oid) is made)
+          → LeavesShaped g old new (DerivesVersion oid unique) made
+      derived_shaped made derives records v tells vol asks =
+          let writes = counts_now tells in
+          let at = found g old now records v vol oid true unique asks writes in
+          let has = its_record g old now records v vol oid true unique asks writes in
+          let is = own g old now records v vol oid true unique asks writes in
+          copy_since oid made (counted_content g old now (catalog_numbered (unique + 1) (catalog_on (g.image old catalog_no))) at.index oid is writes has)
+          (derive_shares g now new at.index oid made is has (derives (tells_now tells) at.index is has (in_file tells at.index is has)))
 
       pub freeze_failed : (fault : PortFault)
           → (IsDamage fault → g.tells now → AreLinked g now → (index : Index) (is : Record) → HasRecord g now index oid is → is.head.state ≡ Current → index.file_no ≡ room_no → ⊥)

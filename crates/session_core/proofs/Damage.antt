@@ -1,6 +1,6 @@
 -- A damage that a call on the session's volume tells, and the same of calls one after the other.
 use Rattle.std.proofs.Common.{◌≡◌, ◌∙◌, ◌<◌, ℕ, List, length, All, arith, Option, Some, None, Result, Ok, Err, refl, sym, ap, subst, ltb, ◌^◌, ◌-◌, true, Bool}
-use Rattle.std.specs.Prelude.{Contains, IfErr, IfOk, IfSome, IsSome, slice_get, unwrap_or}
+use Rattle.std.specs.Prelude.{Contains, IfErr, IfOk, IfSome, IsSome, IsTrue, slice_get, unwrap_or}
 use Rattle.std.proofs.lemmas.Option.{get_or_from_slice_get, slice_get_within}
 use Rattle.ex_base.specs.declared.ground.Ground as ground
 use Rattle.ex_base.specs.declared.faults.PortFault.{PortFault}
@@ -24,11 +24,12 @@ use Rattle.versions.specs.Found.{root_of}
 use Rattle.versions.specs.declared.finding.Found.{Found}
 use Rattle.volume_port.specs.GivingUp.{IsGivingFault}
 use Rattle.disk_model.specs.Outside.{Outside}
-use Rattle.disk_model.specs.Runs.{honest_on, told_value}
+use Rattle.disk_model.specs.Runs.{told_value}
 use Rattle.buffer_groups.specs.Frames.{Lends}
 use Rattle.session_views.specs.declared.stop.Stop.{Stop}
 use Rattle.session_views.specs.declared.stop.Stop.TheVariants as stop
-use Rattle.tree_store.specs.Stored.{Tells, unit_bytes}
+use Rattle.tree_store.specs.Stored.{unit_bytes}
+use Rattle.volume_port.specs.Reading.{TellsBytes}
 use Rattle.trees.specs.Damage.{IsRootFault}
 use Rattle.volume_edits.specs.Damage as damage
 use Rattle.volume_edits.specs.Damage.{IsDamageOf, IsVolumeFault, IsFaultOver}
@@ -57,7 +58,7 @@ use Rattle.trees.specs.Trees.{Units}
 abbrev IsFault : Outside → SessionState → (Oid → Type 0) → PortFault → Type 0
 IsFault a s asked f = IsVolumeFault s.geometry (is_held s.pages) (image_on a s) (units_on a s) asked f
 
-pub stops_so : (a b : Outside) (s : SessionState) (asked : Oid → Type 0) (f : PortFault) → (Tells a s.groups → IsFault a s asked f) → TellsDamage a b s asked (stop_at f)
+pub stops_so : (a b : Outside) (s : SessionState) (asked : Oid → Type 0) (f : PortFault) → (TellsBytes a s.groups → IsFault a s asked f) → TellsDamage a b s asked (stop_at f)
 stops_so a b s asked fault.Disk is = tt
 stops_so a b s asked fault.Memory is = tt
 stops_so a b s asked (fault.Damaged page want got) is = λ tells. told.of_volume (is tells)
@@ -75,7 +76,7 @@ damage_told {T} g s {a} {old} b asked said result is over tells = told_err said 
 
     by : (r : Result T PortFault) → IfErr r (IsFaultIn g s asked) → IfErr r (λ f. TellsDamage a b old asked (stop_at f))
     by (Ok x) h = tt
-    by (Err f) h = stops_so a b old asked f (λ t. over_port f (h (over.tells (t.1, t.2))))
+    by (Err f) h = stops_so a b old asked f (λ t. over_port f (h (over.tells t)))
 
 -- The damage of a tree that a port over the session reads.
 pub tree_told : {T S : Type 0} (g : ground.Ghosts S) (s : S) {a : Outside} {old : SessionState} (root : Root) (said : Result T PortFault) (result : Result T Stop) → result ≡ stop_or said → IsPortOver g s a old
@@ -87,7 +88,7 @@ tree_told {T} g s {a} {old} root said result is over tells = told_err said resul
     by (Err fault.Disk) h = tt
     by (Err fault.Memory) h = tt
     by (Err (fault.Damaged page want got)) h = λ t. subst (λ x. IsRootFault x (units_on a old) root (fault.Damaged page want got)) over.port.geometry
-        (subst (λ x. IsRootFault (g.geometry s) x root (fault.Damaged page want got)) over.port.unit (h (over.tells (t.1, t.2))))
+        (subst (λ x. IsRootFault (g.geometry s) x root (fault.Damaged page want got)) over.port.unit (h (over.tells t)))
 
 -- The damage of the tree of the scan at an index, which a port over the session reads.
 pub scan_told : {T S : Type 0} (g : ground.Ghosts S) (s : S) {a : Outside} {old : SessionState} (b : Outside) (index : ℕ) (said : Result T PortFault) (result : Result T Stop) → result ≡ stop_or said → IsPortOver g s a old → b.disk ≡ a.disk
@@ -110,18 +111,18 @@ scan_told {T} g s {a} {old} b index said result is over disk row at tells held =
     by (Ok x) h memory = tt
     by (Err fault.Disk) h memory = tt
     by (Err fault.Memory) h memory = tt
-    by (Err (fault.Damaged page want got)) h memory = λ t. one page want got row.scan.root refl (h (over.tells (t.1, t.2))) memory
+    by (Err (fault.Damaged page want got)) h memory = λ t. one page want got row.scan.root refl (h (over.tells t)) memory
 
 -- The damage of a tree that is given up, which the session held.
 pub giving_told : (a b : Outside) (s : SessionState) (roots : List Root) (f : PortFault) (why : Stop) → why ≡ stop_at f → b.disk ≡ a.disk → ((root : Root) → Contains roots root → HoldsRoot s root) → IsGivingFault s.geometry a s.groups roots f
-    → TellsDamage a b s no_version why
-giving_told a b s roots f why is disk holds tells = subst (TellsDamage a b s no_version) (sym is) (by f tells)
+    → IsTrue a.honest → TellsDamage a b s no_version why
+giving_told a b s roots f why is disk holds tells honest = subst (TellsDamage a b s no_version) (sym is) (by f tells)
   where
     by : (f : PortFault) → IsGivingFault s.geometry a s.groups roots f → TellsDamage a b s no_version (stop_at f)
     by fault.Disk h = tt
     by fault.Memory h = tt
     by (fault.Damaged page want got) h = λ t.
-        let blamed = h t in
+        let blamed = h (honest, t.0, t.1) in
         told.of_held_root blamed.root (holds blamed.root blamed.one)
         (subst (λ (o : Option (List ℕ)). IsRootFault s.geometry (unit_bytes s.geometry o) blamed.root (fault.Damaged page want got)) (sym disk) blamed.way)
 
@@ -173,20 +174,19 @@ root_found g image oid found at = subst (λ (o : Option Root). IfSome o (IsRootA
 
 -- so does that of what is told by a look
 pub roots_found : {S : Type 0} (g : ground.Ghosts S) (s : S) {a : Outside} {old : SessionState} (oid : Oid) (said : Result (Option Found) PortFault) → IsPortOver g s a old
-    → IfOk said (λ found. IfSome found (λ found. g.tells s → IsFoundAt (g.geometry s) (g.image s) oid found)) → IfOk said (λ found. IfSome found (λ found. Tells a old.groups → IfSome found.root (IsRootAt (image_on a old) oid)))
+    → IfOk said (λ found. IfSome found (λ found. g.tells s → IsFoundAt (g.geometry s) (g.image s) oid found)) → IfOk said (λ found. IfSome found (λ found. TellsBytes a old.groups → IfSome found.root (IsRootAt (image_on a old) oid)))
 roots_found g s oid (Err f) over read = tt
 roots_found g s oid (Ok None) over read = tt
 roots_found g s {a} {old} oid (Ok (Some found)) over read = λ t.
-    subst (λ (image : ℕ → List ℕ). IfSome found.root (IsRootAt image oid)) over.port.image (root_found (g.geometry s) (g.image s) oid found (read (over.tells (t.1, t.2))))
+    subst (λ (image : ℕ → List ℕ). IfSome found.root (IsRootAt image oid)) over.port.image (root_found (g.geometry s) (g.image s) oid found (read (over.tells t)))
 
 -- ---- calls one after the other
 
 module _ {a b : Outside} (old mid : SessionState) (one : OnlyFrames a b old mid) where
-  later_tells : Tells a old.groups → Tells b mid.groups
+  pub later_tells : TellsBytes a old.groups → TellsBytes b mid.groups
   later_tells tells = (
-    honest_on one.reads.nothing.only.goes tells.0,
-    subst (λ (o : Option (List ℕ)). IsSome o) (sym one.reads.nothing.disk) tells.1,
-    subst (λ (o : Option (List ℕ)). All (Lends o) mid.groups) (sym one.reads.nothing.disk) (one.lends tells.2),
+    subst (λ (o : Option (List ℕ)). IsSome o) (sym one.reads.nothing.disk) tells.0,
+    subst (λ (o : Option (List ℕ)). All (Lends o) mid.groups) (sym one.reads.nothing.disk) (one.lends tells.1),
   )
 
   same_root : (root : Root) → HoldsRoot mid root → HoldsRoot old root
@@ -215,7 +215,7 @@ module _ {a b : Outside} (old mid : SessionState) (one : OnlyFrames a b old mid)
   later_damage c asked stop.Down is = tt
 
   -- what is told of the tree of a root that stands in a record, as a call found it
-  pub shape_damage : (c : Outside) (asked : Oid → Type 0) (root : Root) (oid : Oid) (why : Stop) → (Tells a old.groups → IsRootAt (image_on a old) oid root) → TellsOfTree b mid root why → TellsDamage a c old asked why
+  pub shape_damage : (c : Outside) (asked : Oid → Type 0) (root : Root) (oid : Oid) (why : Stop) → (TellsBytes a old.groups → IsRootAt (image_on a old) oid root) → TellsOfTree b mid root why → TellsDamage a c old asked why
   shape_damage c asked root oid stop.Memory at is = tt
   shape_damage c asked root oid stop.Disk at is = tt
   shape_damage c asked root oid (stop.Damaged page want got) at is = λ tells. told.of_volume (damage.as_it_is (damage.of_tree oid root (at tells)
@@ -225,7 +225,7 @@ module _ {a b : Outside} (old mid : SessionState) (one : OnlyFrames a b old mid)
 
 -- ---- the catalog
 
-catalog_image : (w : Outside) (s : SessionState) (d : List ℕ) → w.disk ≡ Some d → image_on w s catalog_no ≡ catalog_bytes s d
+pub catalog_image : (w : Outside) (s : SessionState) (d : List ℕ) → w.disk ≡ Some d → image_on w s catalog_no ≡ catalog_bytes s d
 catalog_image w s d holds =
     let g = s.geometry in
     let inside : ltb catalog_no (area_end g) ≡ true = let some = g.some_pages in grind (arith, nat_tests) in
@@ -238,21 +238,21 @@ catalog_told a b s asked stop.Memory is = tt
 catalog_told a b s asked stop.Disk is = tt
 catalog_told a b s asked stop.Down is = tt
 catalog_told a b s asked (stop.Damaged page want got) is = λ tells.
-    let disk = told_value a.disk tells.1 in
+    let disk = told_value a.disk tells.0 in
     told.of_volume (damage.as_it_is (damage.of_page catalog_no (files.broken_catalog (
       is.page_is,
       is.want_is,
       is.got_is,
       λ catalog.
-          is.isnt disk.0 disk.1 tells.2 (catalog_on (image_on a s catalog_no)) (subst (λ (bytes : List ℕ). CatalogOf bytes (catalog_on (image_on a s catalog_no))) (catalog_image a s disk.0 disk.1) catalog),
+          is.isnt disk.0 disk.1 tells.1 (catalog_on (image_on a s catalog_no)) (subst (λ (bytes : List ℕ). CatalogOf bytes (catalog_on (image_on a s catalog_no))) (catalog_image a s disk.0 disk.1) catalog),
     ))))
 
 -- so of one that has no number of a commit left, as the session read it
 pub spent_told : (a b : Outside) (s : SessionState) (page : List ℕ) → ((d : List ℕ) → a.disk ≡ Some d → FramesLend a s → page ≡ catalog_bytes s d) → (catalog_on page).last ≡ 2 ^ 64 - 1
     → TellsDamage a b s no_version (stop.Damaged (record { 0 = catalog_no }) catalog_seen nothing_seen)
 spent_told a b s page read spent = λ tells.
-    let disk = told_value a.disk tells.1 in
-    told.of_spent refl refl refl (ap (λ (bytes : List ℕ). (catalog_on bytes).last) (catalog_image a s disk.0 disk.1 ∙ sym (read disk.0 disk.1 tells.2)) ∙ spent)
+    let disk = told_value a.disk tells.0 in
+    told.of_spent refl refl refl (ap (λ (bytes : List ℕ). (catalog_on bytes).last) (catalog_image a s disk.0 disk.1 ∙ sym (read disk.0 disk.1 tells.1)) ∙ spent)
 
 -- a commit that fails tells no damage
 pub uncommitted_told : (a b : Outside) (s : SessionState) (asked : Oid → Type 0) (f : CommitFault) (why : Stop) → why ≡ stop_of f → TellsDamage a b s asked why

@@ -7,6 +7,7 @@ pub mod Stopping
 pub mod Ending
 pub mod Finding
 pub mod Damage
+pub mod Ways
 mod UpdateDamage
 mod Holding
 mod Homes
@@ -36,6 +37,7 @@ mod Updating
 mod Writing
 pub mod WritingHome
 mod Tallies
+mod Contents
 mod Changed
 mod Removed
 mod Copied

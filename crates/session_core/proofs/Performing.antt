@@ -1,6 +1,6 @@
 -- An update of objects that is performed through a port over the volume of a session.
 use Rattle.std.specs.Prelude.{Result, Ok, Err, IfOk, IfErr, OnOk, ℕ}
-use Rattle.std.proofs.Common.{ap}
+use Rattle.std.proofs.Common.{◌≡◌, ap, subst}
 use Rattle.ex_base.specs.declared.ground.Ground as ground
 use Rattle.ex_base.specs.declared.faults.PortFault.{PortFault}
 use Rattle.ex_base.specs.Ports.{IsDamage}
@@ -11,7 +11,8 @@ use Rattle.session_core.specs.declared.updates.Done.{Done}
 use Rattle.session_core.specs.declared.updates.ObjectUpdate.{ObjectUpdate}
 use Rattle.session_core.specs.Performed.{IsUpdate}
 use Rattle.volume_edits.specs.TableUpdates.{Asks, HasRoom, TableUpdate, TakesNeed, updated}
-use Rattle.session_core.specs.Performed.{Updates}
+use Rattle.session_core.specs.Contents.{Shaped, VolumePages, pages_in, pages_over}
+use Rattle.session_core.specs.Performed.{LeavesShaped, Updates}
 use Rattle.page_alloc.specs.UnitSet.{free_count, used_at}
 use Rattle.table_model.specs.declared.table.Table.{Table}
 use Rattle.table_model.specs.Machines.{shown}
@@ -22,7 +23,7 @@ use Rattle.session_core.specs.Updates.{HasRoomFor, HoldsTurned, IfAsked, OwnsGon
 use Rattle.volume_port.specs.State.{Moved}
 use Rattle.volume_port.specs.declared.state.VolumeState.{VolumeState}
 use Rattle.session_core.proofs.Holding.{never_shown, own_free, own_shows, own_volume, same_table, update_holds, update_owns}
-use Rattle.session_core.proofs.PortParts.{IsPortWith, PortBegins}
+use Rattle.session_core.proofs.PortParts.{IsPortWith, PortBegins, port_pages}
 use Rattle.session_core.proofs.Roomed.{has_room, has_taken}
 
 module _ {S : Type 0} (g : ground.Ghosts S) (s t : S) (update : ObjectUpdate) (result : Result Done PortFault) (does : (u : TableUpdate) → IsUpdate update u → Updates g s t u result)
@@ -36,6 +37,26 @@ module _ {S : Type 0} (g : ground.Ghosts S) (s t : S) (update : ObjectUpdate) (r
             → IfOk r (λ done. IfAsked a old update (λ before u. AreRows new.meta → HoldsTurned before b new done.gone done.come (updated u done.oid (shown before.machine))))
         by (Err fault) does = tt
         by (Ok done) does = λ before has now u is asked rows. update_holds g s old begins.over begins.told (Asks u) names t begins.ready leads new moved later (updated u done.oid) done.gone done.come (does u is).done before has now asked rows
+
+    -- and the contents of the versions lie as the update leaves them
+    pub performed_shaped : ((u : TableUpdate) → IsUpdate update u → IfOk result (λ done. LeavesShaped g s t u done.oid))
+        → IfOk result (λ done. IfAsked a old update (λ before u. Shaped (pages_over old.geometry old.meta a) (pages_over old.geometry new.meta b) u done.oid))
+    performed_shaped lies = by result lies
+      where
+        was : pages_in g s ≡ pages_over old.geometry old.meta a
+        was = port_pages g s old.geometry a old begins.over
+
+        now_there : pages_in g t ≡ pages_over old.geometry new.meta b
+        now_there = port_pages g t old.geometry b new later
+
+        by : (r : Result Done PortFault) → ((u : TableUpdate) → IsUpdate update u → IfOk r (λ done. LeavesShaped g s t u done.oid))
+            → IfOk r (λ done. IfAsked a old update (λ before u. Shaped (pages_over old.geometry old.meta a) (pages_over old.geometry new.meta b) u done.oid))
+        by (Err fault) lies = tt
+        by (Ok done) lies = λ before has now u is asked.
+            subst (λ (p : VolumePages). Shaped p (pages_over old.geometry new.meta b) u done.oid) was
+            (subst (λ (p : VolumePages). Shaped (pages_in g s) p u done.oid) now_there
+            (lies u is now.shows.decoded.records now.shows.working (own_shows g s old begins.over begins.told has now).tells (own_volume g s old begins.over begins.told has now)
+            (subst (λ (table : Table). Asks u now.shows.working table) (same_table g s old begins.over begins.told has now) asked)))
 
     -- and the root that went owns its tree
     pub performed_owns : IfOk result (λ done. IfAsked a old update (λ before u. OwnsGone before b new done.gone done.come))

@@ -1,6 +1,6 @@
 -- A damage that an update of the session's volume tells.
 use Rattle.std.proofs.Common.{◌≡◌, ℕ, List, [], ◌∷◌, Option, Some, sym, subst, inl, inr}
-use Rattle.std.specs.Prelude.{Result, Ok, Err, IfErr}
+use Rattle.std.specs.Prelude.{Result, Ok, Err, IfErr, IsTrue}
 use Rattle.ex_base.specs.declared.ground.Ground as ground
 use Rattle.ex_base.specs.declared.faults.PortFault.{PortFault}
 use Rattle.ex_base.specs.declared.faults.PortFault.TheVariants as fault
@@ -63,11 +63,11 @@ turned_fault a m b v groups gained asked (fault.Damaged page want got) disk told
     subst (λ (o : Option (List ℕ)). IsTurningFault v.geometry (unit_bytes v.geometry o) gained (fault.Damaged page want got)) (sym disk) (is tt (told tells)))
 
 -- The damage of an update is one of the session.
-pub update_told : (a b : Outside) (s : SessionState) (asked : Oid → Type 0) (f : PortFault) (why : Stop) → why ≡ stop_at f → IsUpdateFault a b (volume_held s) s.gained asked f → TellsDamage a b s asked why
-update_told a b s asked f why is tells = subst (TellsDamage a b s asked) (sym is) (by f tells)
+pub update_told : (a b : Outside) (s : SessionState) (asked : Oid → Type 0) (f : PortFault) (why : Stop) → why ≡ stop_at f → IsUpdateFault a b (volume_held s) s.gained asked f → IsTrue a.honest → TellsDamage a b s asked why
+update_told a b s asked f why is tells honest = subst (TellsDamage a b s asked) (sym is) (by f tells)
   where
     by : (f : PortFault) → IsUpdateFault a b (volume_held s) s.gained asked f → TellsDamage a b s asked (stop_at f)
     by fault.Disk h = tt
     by fault.Memory h = tt
-    by (fault.Damaged page want got) (inl h) = λ t. told.of_volume (h t)
-    by (fault.Damaged page want got) (inr h) = λ t. let turned = h t in told.of_held_root turned.root (told.of_turned turned.rest turned.out) turned.way
+    by (fault.Damaged page want got) (inl h) = λ t. told.of_volume (h (honest, t.0, t.1))
+    by (fault.Damaged page want got) (inr h) = λ t. let turned = h (honest, t.0, t.1) in told.of_held_root turned.root (told.of_turned turned.rest turned.out) turned.way

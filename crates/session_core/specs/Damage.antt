@@ -17,6 +17,7 @@ use Rattle.trees.specs.Damage.{IsRootFault}
 use Rattle.trees.specs.Trees.{Units}
 use Rattle.volume_port.specs.Logged.{is_held}
 use Rattle.volume_port.specs.Ported.{image_over}
+use Rattle.volume_port.specs.Reading.{TellsBytes}
 use Rattle.volume_port.specs.declared.state.VolumeState.{VolumeState}
 use Rattle.volume_edits.specs.Damage.{IsDamageOf, IsVolumeFault}
 use Rattle.session_core.specs.Sessions.{SessionState}
@@ -46,15 +47,15 @@ pub data IsSessionDamage (a b : Outside) (s : SessionState) (asked : Oid → Typ
   of_held_root : (root : Root) → HoldsRoot s root → IsRootFault s.geometry (units_on b s) root (fault.Damaged page want got) → IsSessionDamage a b s asked page want got
   of_spent : page.0 ≡ catalog_no → want ≡ catalog_seen → got ≡ nothing_seen → (catalog_on (image_on a s catalog_no)).last ≡ 2 ^ 64 - 1 → IsSessionDamage a b s asked page want got
 
--- Where the disk is honest and tells its bytes, and each frame lends those of its page, a damage is so to which a call stops that is asked of versions by
--- their OIDs.
+-- Where the disk tells its bytes, and each frame lends those of its page, a damage is so to which a call stops that is asked of versions by their OIDs. Of
+-- the disk no honesty is asked: a call that reads at most tells it of any.
 abbrev pub TellsDamage : Outside → Outside → SessionState → (Oid → Type 0) → Stop → Type 0
-TellsDamage a b s asked (stop.Damaged page want got) = Tells a s.groups → IsSessionDamage a b s asked page want got
+TellsDamage a b s asked (stop.Damaged page want got) = TellsBytes a s.groups → IsSessionDamage a b s asked page want got
 TellsDamage a b s asked why = ⊤
 
 -- the same of a call that reads the tree of a root: of a page on the way down from it
 abbrev pub TellsOfTree : Outside → SessionState → Root → Stop → Type 0
-TellsOfTree a s root (stop.Damaged page want got) = Tells a s.groups → IsRootFault s.geometry (units_on a s) root (fault.Damaged page want got)
+TellsOfTree a s root (stop.Damaged page want got) = TellsBytes a s.groups → IsRootFault s.geometry (units_on a s) root (fault.Damaged page want got)
 TellsOfTree a s root why = ⊤
 
 -- what a call on a port tells, over what the port has at first

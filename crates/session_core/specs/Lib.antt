@@ -4,8 +4,10 @@ pub mod Catalogs
 pub mod Steps
 pub mod Finding
 pub mod Damage
+pub mod Ways
 pub mod Counts
 pub mod Needs
+pub mod Contents
 pub mod Performed
 pub mod Turning
 pub mod Updates

@@ -16,6 +16,7 @@ use Rattle.session_core.specs.declared.updates.copying.Copying.TheVariants as co
 use Rattle.volume_edits.specs.Ported.{IsApart, IsVolume, units_in}
 use Rattle.volume_edits.specs.TableUpdates.{Asks, BecomesVolume, HasRoom, TableUpdate, Makes, Changes, Removes, Freezes, Derives, Drops, updated}
 use Rattle.volume_model.specs.Volume.{Volume, table_of}
+use Rattle.session_core.specs.Contents.{Shaped, pages_in}
 use Rattle.session_core.specs.Damage.{no_version, the_version}
 
 -- a copy of a version, as an update of the table
@@ -69,3 +70,8 @@ pub record Updates {S : Type 0} (g : ground.Ghosts S) (old new : S) (u : TableUp
   pub done : IfOk result (λ done. (records : List LogRecord) (v : Volume) → g.tells old → IsVolume g old records v → Asks u v (table_of (units_in g old) v) → IsApart g new → AreInUse g new
       → BecomesVolume g old new records v (updated u done.oid (table_of (units_in g old) v)) done.gone done.come)
   pub sound : IfErr result (λ fault. IsDamage fault → (records : List LogRecord) (v : Volume) → g.tells old → IsVolume g old records v → Asks u v (table_of (units_in g old) v) → HasRoom g old u → ⊥)
+
+-- what an update of a volume that has what it asks leaves of the contents of versions, where the one that it makes or changes has this OID
+abbrev pub LeavesShaped : {S : Type 0} → ground.Ghosts S → S → S → TableUpdate → Oid → Type 0
+LeavesShaped g old new u made = (records : List LogRecord) (v : Volume) → g.tells old → IsVolume g old records v → Asks u v (table_of (units_in g old) v)
+    → Shaped (pages_in g old) (pages_in g new) u made

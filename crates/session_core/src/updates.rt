@@ -3,7 +3,7 @@ ghost use Rattle.std.specs.Prelude.{◌≡◌, IfErr, IfOk, OnOk};
 ghost use Rattle.ex_base.specs.Ports.{HasCause};
 ghost use Rattle.ex_base.specs.declared.names.Area.TheVariants.{Page};
 ghost use Rattle.volume_edits.specs.TableUpdates.{TableUpdate, TakesNeed, Changes};
-ghost use Rattle.session_core.specs.Performed.{Updates, asked_of};
+ghost use Rattle.session_core.specs.Performed.{LeavesShaped, Updates, asked_of};
 ghost use Rattle.session_core.specs.Performed.{CanPerform, IsCopying, IsUpdate, NamesOid, charge_of};
 ghost use Rattle.session_core.specs.Damage.{IsFaultIn, the_version};
 ghost use Rattle.file_index.specs.Taking.{OnlyTakes};
@@ -76,6 +76,8 @@ fn change<V: Volume>(
     ensures named { IfOk result (λ done. done.oid ≡ oid.now) }
     ensures updates { Updates V.Ground volume.old volume.new
         (Changes oid.now (change_of edit.now)) result }
+    ensures shaped { IfOk result (λ done. LeavesShaped V.Ground volume.old volume.new
+        (Changes oid.now (change_of edit.now)) done.oid) }
     ensures takes { OnOk result (TakesNeed V.Ground volume.old volume.new
         (Changes oid.now (change_of edit.now))) }
     ensures touches { OnOk result (TouchesAtMost V.Ground volume.old volume.new 1) }
@@ -115,6 +117,8 @@ pub fn perform<V: Volume>(
     ensures named { IfOk result (λ done. NamesOid update.now done.oid) }
     ensures updates { (u : TableUpdate) → IsUpdate update.now u
         → Updates V.Ground volume.old volume.new u result }
+    ensures shaped { (u : TableUpdate) → IsUpdate update.now u
+        → IfOk result (λ done. LeavesShaped V.Ground volume.old volume.new u done.oid) }
     ensures shares { IsCopying update.now
         → OnOk result (OnlyTakes V.Ground volume.old volume.new) }
     ensures takes { (u : TableUpdate) → IsUpdate update.now u

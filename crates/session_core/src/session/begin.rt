@@ -1,5 +1,5 @@
 //! A transaction is opened, and one is given up.
-ghost use Rattle.std.specs.Prelude.{◌≡◌, ◌≤◌, true, false, OnOk, IfErr};
+ghost use Rattle.std.specs.Prelude.{◌≡◌, ◌≤◌, true, false, OnOk, IfErr, IsTrue};
 ghost use Rattle.ex_base.specs.Sizes.{volume_bytes};
 
 use super::Session;
@@ -55,7 +55,8 @@ impl Session {
         requires room { volume_bytes self.old.geometry ≤ (H.outside host.old).size }
         ensures steps { Steps (H.outside host.old)
             (H.outside host.new) self.old self.new request.Abort result }
-        ensures damage { IfErr result (TellsDamage (H.outside host.old) (H.outside host.new)
+        ensures damage { IsTrue (H.outside host.old).honest
+            → IfErr result (TellsDamage (H.outside host.old) (H.outside host.new)
             self.old no_version) }
 
         // The pages that the transaction took are free.

@@ -1,5 +1,5 @@
 //! A transaction is committed, and a checkpoint is made.
-ghost use Rattle.std.specs.Prelude.{◌≡◌, ◌≤◌, ◌+◌, ◌-◌, ◌^◌, length, None, IfSome, Ok, Err, IfErr, OnOk, true};
+ghost use Rattle.std.specs.Prelude.{◌≡◌, ◌≤◌, ◌+◌, ◌-◌, ◌^◌, length, None, IfSome, Ok, Err, IfErr, IsTrue, OnOk, true};
 ghost use Rattle.ex_base.specs.Sizes.{volume_bytes};
 ghost use Rattle.object_files.specs.Catalog.{CatalogOf};
 ghost use Rattle.object_files.specs.Edits.{IsCatalogPage};
@@ -65,7 +65,8 @@ impl Session {
         requires room { volume_bytes self.old.geometry ≤ (H.outside host.old).size }
         ensures steps { Steps (H.outside host.old)
             (H.outside host.new) self.old self.new request.Commit result }
-        ensures damage { IfErr result (TellsDamage (H.outside host.old) (H.outside host.new)
+        ensures damage { IsTrue (H.outside host.old).honest
+            → IfErr result (TellsDamage (H.outside host.old) (H.outside host.new)
             self.old no_version) }
         ensures logs { (before : View SessionState) → before.session ≡ self.old
             → (shown : ShowsNow meant (H.outside host.old) before) → self.old.opened ≡ true

@@ -1,5 +1,5 @@
 //! The digest of a version.
-ghost use Rattle.std.specs.Prelude.{◌≡◌, ◌≤◌, ◌<◌, length, IfOk, IfErr};
+ghost use Rattle.std.specs.Prelude.{◌≡◌, ◌≤◌, ◌<◌, length, IfOk, IfErr, OnOk};
 ghost use Rattle.sha2.specs.Sha256.{sha256};
 ghost use Rattle.ex_base.specs.Sizes.{volume_bytes};
 ghost use Rattle.session_core.specs.Finding.{IfLive, IfShown};
@@ -16,7 +16,9 @@ use volume_port::{MAIN, ReadingPort};
 impl Session {
     ghost use Rattle.session_core.specs.Sessions.{IsSession};
     ghost use Rattle.session_core.specs.Steps.{OnlyFrames};
-    ghost use Rattle.session_core.specs.Damage.{TellsDamage, the_version};
+    ghost use Rattle.session_core.specs.Damage.{TellsDamage, image_on, the_version, units_on};
+    ghost use Rattle.versions.specs.Damage.{IsFoundAnd, IsReadThrough};
+    ghost use Rattle.volume_port.specs.Reading.{TellsBytes};
     ghost use Rattle.session_core.specs.Finding.{LineStops, IsOutside};
 
     /// The SHA-256 digest of a version of `size` bytes, which are read as many at a time as `buffer` has room for: what it holds afterwards says nothing. It
@@ -36,6 +38,10 @@ impl Session {
         ensures hash { IfOk result (λ hash. IfShown (D.outside disk.old) self.old
             (λ before. IfLive before oid.now
             (λ bytes. length bytes ≡ size → hash ≡ sha256 bytes))) }
+        ensures way { OnOk result (TellsBytes (D.outside disk.old) self.old.groups → 0 < size
+            → IsFoundAnd self.old.geometry (image_on (D.outside disk.old) self.old) oid.now
+            (IsReadThrough self.old.geometry (units_on (D.outside disk.old) self.old) 0
+            size)) }
         ensures stops { IfErr result (LineStops (D.outside disk.old) (D.outside disk.new)) }
         ensures damage { IfErr result (TellsDamage (D.outside disk.old) (D.outside disk.new)
             self.old (the_version oid.now)) }

@@ -1,5 +1,5 @@
 //! Updates of objects, through a port over the volume of a session.
-ghost use Rattle.std.specs.Prelude.{◌≡◌, ◌≤◌, ◌<◌, ◌+◌, [], length, suc, true, IfOk, IfErr, OnOk, OnErr};
+ghost use Rattle.std.specs.Prelude.{◌≡◌, ◌≤◌, ◌<◌, ◌+◌, [], length, suc, true, IfOk, IfErr, IsTrue, OnOk, OnErr};
 ghost use Rattle.ex_base.specs.Ports.{HasCause, IsDamage};
 ghost use Rattle.disk_model.specs.Outside.{DiskOnly, Leaves};
 ghost use Rattle.table_model.specs.Requests.{Request};
@@ -14,6 +14,7 @@ ghost use Rattle.page_alloc.specs.UnitSet.{free_count, used_at};
 ghost use Rattle.table_model.specs.Machines.{touched_most, updates_most};
 ghost use Rattle.session_core.specs.Performed.{CanPerform, IsCopying, NamesOid, charge_of, asked_of};
 ghost use Rattle.volume_edits.specs.TableUpdates.{updated};
+ghost use Rattle.session_core.specs.Contents.{Shaped, pages_on, pages_over};
 ghost use Rattle.session_core.specs.Damage.{IsFaultAt, IsUpdateFault, TellsDamage};
 ghost use Rattle.session_core.specs.Finding.{IsOutside, LineStops};
 ghost use Rattle.session_core.specs.Counts.{free_in};
@@ -87,6 +88,12 @@ fn update_parts<'a, D: Disk>(
         AreRows meta.new → HoldsTurned before (D.outside disk.new)
         (with_parts v units.new groups.new meta.new pages.new) done.gone done.come
         (updated u done.oid (shown before.machine)))) }
+    ensures shaped { (v : VolumeState)
+        → HasParts v geometry.now units.old groups.old meta.old pages.old
+        → AreReady (D.outside disk.old).size v
+        → IfOk result (λ done. IfAsked (D.outside disk.old) v update.now (λ before u.
+        Shaped (pages_over v.geometry v.meta (D.outside disk.old))
+        (pages_over v.geometry meta.new (D.outside disk.new)) u done.oid)) }
     ensures owns { (v : VolumeState)
         → HasParts v geometry.now units.old groups.old meta.old pages.old
         → AreReady (D.outside disk.old).size v
@@ -152,6 +159,9 @@ fn update_volume<D: Disk>(
         (λ before u. HasRoots before.session gained.old.items lost.old.items
         → HoldsTable before (D.outside disk.new) volume.new
         gained.new.items lost.new.items (updated u done.oid (shown before.machine)))) }
+    ensures shaped { IfOk result (λ done. IfAsked (D.outside disk.old) volume.old update.now
+        (λ before u. Shaped (pages_over volume.old.geometry volume.old.meta (D.outside disk.old))
+        (pages_over volume.old.geometry volume.new.meta (D.outside disk.new)) u done.oid)) }
     ensures sound { IfErr result (λ fault. IfAsked (D.outside disk.old) volume.old update.now
         (λ before u. HasRoots before.session gained.old.items lost.old.items
         → HasRoomFor before u → IsDamage fault → ⊥)) }
@@ -207,6 +217,9 @@ impl Session {
         ensures holds { IfOk result (λ oid. IfUpdated (H.outside host.old) self.old update.now
             (λ before u. HoldsTable before (H.outside host.new) (volume_held self.new)
             self.new.gained self.new.lost (updated u oid (shown before.machine)))) }
+        ensures shaped { IfOk result (λ oid. IfUpdated (H.outside host.old) self.old update.now
+            (λ before u. Shaped (pages_on (H.outside host.old) self.old)
+            (pages_on (H.outside host.new) self.new) u oid)) }
         ensures only { DiskOnly (H.outside host.old) (H.outside host.new) }
         ensures writes { WritesUnused (H.outside host.old) (H.outside host.new) self.old }
         ensures any_moment { (before : View SessionState) → before.session ≡ self.old
@@ -218,7 +231,8 @@ impl Session {
         ensures down { self.new.down ≡ self.old.down }
         ensures given_up { OnErr result (GivenUp self.new) }
         ensures stops { IfErr result (LineStops (H.outside host.old) (H.outside host.new)) }
-        ensures damage { IfErr result (TellsDamage (H.outside host.old) (H.outside host.new)
+        ensures damage { IsTrue (H.outside host.old).honest
+            → IfErr result (TellsDamage (H.outside host.old) (H.outside host.new)
             self.old (asked_of update.now)) }
         ensures sound { IfErr result (λ why. IfUpdated (H.outside host.old) self.old update.now
             (λ before u. HasRoomFor before u → IsOutside why)) }

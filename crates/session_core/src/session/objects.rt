@@ -82,10 +82,11 @@ pub struct Named {
 impl Session {
     ghost use Rattle.session_core.specs.Sessions.{IsSession};
     ghost use Rattle.session_core.specs.Steps.{OnlyFrames};
-    ghost use Rattle.tree_store.specs.Stored.{Tells};
-    ghost use Rattle.versions.specs.Damage.{IsRootAt};
-    ghost use Rattle.session_core.specs.Damage.{TellsDamage, TellsOfFound, image_on, no_version, the_version};
+    ghost use Rattle.versions.specs.Damage.{HasSoundWay, IsFoundAnd, IsReadThrough, IsRootAt, IsWalkedOut};
+    ghost use Rattle.session_core.specs.Damage.{TellsDamage, TellsOfFound, image_on, no_version, the_version, units_on};
+    ghost use Rattle.session_core.specs.Ways.{IsLookBy, IsLookFor};
     ghost use Rattle.session_core.specs.Finding.{IsNamed, LineStops, IsOutside};
+    ghost use Rattle.volume_port.specs.Reading.{TellsBytes};
 
     /// What is told of the version that an OID names, none where there is none.
     pub fn find_version<D: Disk>(
@@ -105,8 +106,11 @@ impl Session {
         ensures large { IfOk result (λ found. IfSome found (λ found. IfSome found.root
             (λ root. found.size ≡ root.size))) }
         ensures rooted { IfOk result (λ found. IfSome found (λ found.
-            Tells (D.outside disk.old) self.old.groups → IfSome found.root
+            TellsBytes (D.outside disk.old) self.old.groups → IfSome found.root
             (IsRootAt (image_on (D.outside disk.old) self.old) oid.now))) }
+        ensures way { IfOk result (λ found. TellsBytes (D.outside disk.old) self.old.groups
+            → IsLookFor self.old.geometry (image_on (D.outside disk.old) self.old)
+            oid.now found) }
         ensures stops { IfErr result (LineStops (D.outside disk.old) (D.outside disk.new)) }
         ensures damage { IfErr result (TellsDamage (D.outside disk.old) (D.outside disk.new)
             self.old no_version) }
@@ -148,8 +152,10 @@ impl Session {
         ensures asked { IfOk result (λ told. IfOk told (λ version.
             oid_among self.old.names (reference_of x.now) ≡ Some version.oid)) }
         ensures rooted { IfOk result (λ told. IfOk told (λ version.
-            Tells (H.outside host.old) self.old.groups → IfSome version.found.root
+            TellsBytes (H.outside host.old) self.old.groups → IfSome version.found.root
             (IsRootAt (image_on (H.outside host.old) self.old) version.oid))) }
+        ensures way { IfOk result (λ told. TellsBytes (H.outside host.old) self.old.groups
+            → IsLookBy (H.outside host.old) self.old (reference_of x.now) told) }
         ensures stops { IfErr result (LineStops (H.outside host.old) (H.outside host.new)) }
         ensures damage { IfErr result (TellsDamage (H.outside host.old) (H.outside host.new)
             self.old no_version) }
@@ -182,6 +188,10 @@ impl Session {
         ensures bytes { OnOk result (IfShown (D.outside disk.old) self.old
             (λ before. IfLive before oid.now (λ bytes. out.new
             ≡ bytes_at bytes pos (length out.old)))) }
+        ensures way { OnOk result (TellsBytes (D.outside disk.old) self.old.groups
+            → IsFoundAnd self.old.geometry (image_on (D.outside disk.old) self.old) oid.now
+            (IsReadThrough self.old.geometry (units_on (D.outside disk.old) self.old) pos
+            (length out.old))) }
         ensures stops { IfErr result (LineStops (D.outside disk.old) (D.outside disk.new)) }
         ensures damage { IfErr result (TellsDamage (D.outside disk.old) (D.outside disk.new)
             self.old (the_version oid.now)) }
@@ -222,6 +232,9 @@ impl Session {
         ensures bytes { OnOk result (IfShown (D.outside disk.old) self.old
             (λ before. IfFound before version.now (λ bytes. out.new
             ≡ bytes_at bytes pos (length out.old)))) }
+        ensures way { OnOk result (TellsBytes (D.outside disk.old) self.old.groups
+            → IfSome version.now.found.root (HasSoundWay self.old.geometry
+            (units_on (D.outside disk.old) self.old) pos (length out.old))) }
         ensures stops { IfErr result (LineStops (D.outside disk.old) (D.outside disk.new)) }
         ensures damage { IfErr result (TellsOfFound (D.outside disk.old) (D.outside disk.new)
             self.old version.now.oid version.now.found.root) }
@@ -248,6 +261,9 @@ impl Session {
         ensures only { OnlyFrames (D.outside disk.old) (D.outside disk.new) self.old self.new }
         ensures oids { IfOk result (λ oids. IfFile (D.outside disk.old) self.old file_no
             (λ before name. oids.items ≡ oids_listed before.machine name)) }
+        ensures way { OnOk result (TellsBytes (D.outside disk.old) self.old.groups
+            → IsWalkedOut self.old.geometry (image_on (D.outside disk.old) self.old)
+            file_no) }
         ensures stops { IfErr result (LineStops (D.outside disk.old) (D.outside disk.new)) }
         ensures damage { IfErr result (TellsDamage (D.outside disk.old) (D.outside disk.new)
             self.old no_version) }

@@ -1,5 +1,5 @@
 //! Scans are opened, and closed.
-ghost use Rattle.std.specs.Prelude.{◌≡◌, ◌≤◌, ◌<◌, length, None, IfOk, IfErr, IfSome, OnOk, OnErr};
+ghost use Rattle.std.specs.Prelude.{◌≡◌, ◌≤◌, ◌<◌, length, None, IfOk, IfErr, IfSome, OnOk, OnErr, IsTrue};
 ghost use Rattle.disk_model.specs.Outside.{ReadsOnly};
 ghost use Rattle.ex_base.specs.Sizes.{volume_bytes};
 ghost use Rattle.ex_base.specs.declared.names.Area.TheVariants.{Page};
@@ -162,7 +162,8 @@ impl Session {
         ensures stays { OnErr result (self.new
             ≡ record self.old { groups = self.new.groups; units = self.new.units }) }
         ensures stops { IfErr result (LineStops (H.outside host.old) (H.outside host.new)) }
-        ensures damage { IfErr result (TellsDamage (H.outside host.old) (H.outside host.new)
+        ensures damage { IsTrue (H.outside host.old).honest
+            → IfErr result (TellsDamage (H.outside host.old) (H.outside host.new)
             self.old no_version) }
         ensures sound { IfErr result (λ why. IfShown (H.outside host.old) self.old
             (λ before. IsOutside why)) }

@@ -1,9 +1,10 @@
 //! Open scans are read on.
 ghost use Rattle.std.specs.Prelude.{◌≡◌, ◌≤◌, ◌<◌, length, IfOk, IfErr, IfSome, OnOk, OnErr, slice_set};
 ghost use Rattle.ex_base.specs.Sizes.{volume_bytes};
-ghost use Rattle.open_scans.specs.OpenScans.{AtRow, row_after};
+ghost use Rattle.open_scans.specs.OpenScans.{AtRow, HasSoundRest, position_of, row_after};
 ghost use Rattle.session_core.specs.Finding.{IfShown};
 ghost use Rattle.session_core.specs.ScanRows.{AtScan, bytes_next, with_scans};
+ghost use Rattle.volume_port.specs.Reading.{OthersStay};
 
 use super::Session;
 use super::objects::or_stop;
@@ -14,7 +15,8 @@ use volume_port::ReadingPort;
 
 impl Session {
     ghost use Rattle.open_scans.specs.OpenScans.{scan_index};
-    ghost use Rattle.session_core.specs.Damage.{TellsDamage, no_version};
+    ghost use Rattle.session_core.specs.Damage.{TellsDamage, no_version, units_on};
+    ghost use Rattle.volume_port.specs.Reading.{TellsBytes};
     ghost use Rattle.session_core.specs.Finding.{IsOutside, LineStops};
     ghost use Rattle.session_core.specs.Sessions.{IsSession};
     ghost use Rattle.session_core.specs.Steps.{OnlyFrames};
@@ -38,7 +40,8 @@ impl Session {
     }
 
     /// Gives the next `len` bytes of the scan at an index, or all that are left where they are fewer, and moves it on behind them. It reads through the
-    /// scan's group. It stops where the disk fails, where memory is wanted, and at a page that isn't what names it; then no scan moves.
+    /// scan's group, and no other group changes. It stops where the disk fails, where memory is wanted, and at a page that isn't what names it; then no
+    /// scan moves.
     pub fn next_piece<D: Disk>(
         &mut self,
         alloc: Global,
@@ -51,11 +54,16 @@ impl Session {
         ensures session { IsSession self.old }
         ensures only { OnlyFrames (D.outside disk.old) (D.outside disk.new)
             (with_scans self.old self.new.scans) self.new }
+        ensures others { AtRow self.old.scans index
+            (λ row. OthersStay row.group self.old.groups self.new.groups) }
         ensures moved { OnOk result (AtRow self.old.scans index
             (λ row. self.new.scans ≡ slice_set self.old.scans index (row_after len row))) }
         ensures stays { OnErr result (self.new.scans ≡ self.old.scans) }
         ensures bytes { IfOk result (λ given. IfShown (D.outside disk.old) self.old
             (λ before. AtScan before.machine index (λ row. given.items ≡ bytes_next len row))) }
+        ensures way { OnOk result (TellsBytes (D.outside disk.old) self.old.groups
+            → AtRow self.old.scans index (λ row. HasSoundRest self.old.geometry
+            (units_on (D.outside disk.old) self.old) len (position_of row.scan))) }
         ensures stops { IfErr result (LineStops (D.outside disk.old) (D.outside disk.new)) }
         ensures damage { IfErr result (TellsDamage (D.outside disk.old) (D.outside disk.new)
             self.old no_version) }

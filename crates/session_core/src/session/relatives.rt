@@ -1,11 +1,12 @@
 //! The versions that a version is related to.
-ghost use Rattle.std.specs.Prelude.{◌≡◌, ◌≤◌, IfOk, IfErr};
+ghost use Rattle.std.specs.Prelude.{◌≡◌, ◌≤◌, IfOk, IfErr, OnOk};
 ghost use Rattle.ex_base.specs.Ports.{Keeps, HasCause, IsDamage};
 ghost use Rattle.ex_base.specs.Sizes.{volume_bytes};
 ghost use Rattle.session_views.specs.View.{View};
 ghost use Rattle.session_core.specs.Finding.{AreRelatives, oids_if, IfShown, IfVersion, PortShows};
 ghost use Rattle.session_core.specs.Damage.{IsFaultIn, the_version};
 ghost use Rattle.session_core.specs.Sessions.{SessionState};
+ghost use Rattle.session_core.specs.Ways.{HasReadRelatives};
 
 use super::Session;
 use super::objects::or_stop;
@@ -51,6 +52,8 @@ fn relatives_in<V: ReadVolume>(
         AreRelatives before.machine version relation oids.items)) }
     ensures sound { (before : View SessionState) → PortShows V.Ground volume.old before
         → IfVersion before oid.now (λ version. IfErr result (λ fault. IsDamage fault → ⊥)) }
+    ensures way { OnOk result (V.tells volume.old → HasReadRelatives relation
+        (V.geometry volume.old) (V.image volume.old) oid.now) }
     ensures fault { IfErr result (IsFaultIn V.Ground volume.old (the_version oid.now)) }
     ensures kept { Keeps V.Ground volume.old volume.new }
     ensures cause { HasCause (V.faults volume.old) (V.faults volume.new) result }
@@ -65,7 +68,8 @@ fn relatives_in<V: ReadVolume>(
 impl Session {
     ghost use Rattle.session_core.specs.Sessions.{IsSession};
     ghost use Rattle.session_core.specs.Steps.{OnlyFrames};
-    ghost use Rattle.session_core.specs.Damage.{TellsDamage};
+    ghost use Rattle.session_core.specs.Damage.{TellsDamage, image_on};
+    ghost use Rattle.volume_port.specs.Reading.{TellsBytes};
     ghost use Rattle.session_core.specs.Finding.{LineStops, IsOutside};
 
     /// Relatives of a version. It stops where the disk fails, where memory is wanted, and at a page that isn't what names it.
@@ -82,6 +86,9 @@ impl Session {
         ensures oids { IfOk result (λ oids. IfShown (D.outside disk.old) self.old
             (λ before. IfVersion before oid.now (λ version.
             AreRelatives before.machine version relation oids.items))) }
+        ensures way { OnOk result (TellsBytes (D.outside disk.old) self.old.groups
+            → HasReadRelatives relation self.old.geometry
+            (image_on (D.outside disk.old) self.old) oid.now) }
         ensures stops { IfErr result (LineStops (D.outside disk.old) (D.outside disk.new)) }
         ensures damage { IfErr result (TellsDamage (D.outside disk.old) (D.outside disk.new)
             self.old (the_version oid.now)) }

@@ -17,7 +17,10 @@ use volume_port::{MAIN, ReadingPort};
 impl Session {
     ghost use Rattle.session_core.specs.Sessions.{IsSession};
     ghost use Rattle.session_core.specs.Steps.{OnlyFrames};
-    ghost use Rattle.session_core.specs.Damage.{TellsOfTree};
+    ghost use Rattle.session_core.specs.Damage.{TellsOfTree, units_on};
+    ghost use Rattle.session_core.specs.Ways.{IsSoundTree};
+    ghost use Rattle.versions.specs.Damage.{HasSoundWay};
+    ghost use Rattle.volume_port.specs.Reading.{TellsBytes};
     ghost use Rattle.session_core.specs.Finding.{LineStops, IsOutside};
 
     /// The number of leaves of a version's tree, and in `first` the bytes of the first ones, as many as it has room for. It stops where the disk fails,
@@ -36,6 +39,8 @@ impl Session {
         ensures shape { IfOk result (λ leaves. IfShown (D.outside disk.old) self.old
             (λ before. IfRoot before root.now
             (λ oid. TellsShape before oid leaves first.old first.new))) }
+        ensures way { OnOk result (TellsBytes (D.outside disk.old) self.old.groups
+            → IsSoundTree self.old.geometry (units_on (D.outside disk.old) self.old) root.now) }
         ensures stops { IfErr result (LineStops (D.outside disk.old) (D.outside disk.new)) }
         ensures damage { IfErr result (TellsOfTree (D.outside disk.old) self.old root.now) }
         ensures sound { IfErr result (λ why. IfShown (D.outside disk.old) self.old
@@ -72,6 +77,9 @@ impl Session {
         ensures bytes { OnOk result (IfShown (D.outside disk.old) self.old
             (λ before. IfRoot before root.now (λ oid. IfLive before oid
             (λ bytes. out.new ≡ bytes_at bytes pos (length out.old))))) }
+        ensures way { OnOk result (TellsBytes (D.outside disk.old) self.old.groups
+            → HasSoundWay self.old.geometry (units_on (D.outside disk.old) self.old) pos
+            (length out.old) root.now) }
         ensures stops { IfErr result (LineStops (D.outside disk.old) (D.outside disk.new)) }
         ensures damage { IfErr result (TellsOfTree (D.outside disk.old) self.old root.now) }
         ensures sound { IfErr result (λ why. IfShown (D.outside disk.old) self.old

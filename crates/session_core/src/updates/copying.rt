@@ -9,7 +9,7 @@ ghost use Rattle.file_rooms.specs.Rooms.{ChangesOne};
 ghost use Rattle.session_core.specs.Damage.{IsFaultIn, the_version};
 ghost use Rattle.session_core.specs.Performed.{copies};
 ghost use Rattle.volume_edits.specs.TableUpdates.{TakesNeed};
-ghost use Rattle.session_core.specs.Performed.{Updates};
+ghost use Rattle.session_core.specs.Performed.{LeavesShaped, Updates};
 
 use super::Done;
 use super::creating::count_number;
@@ -43,6 +43,8 @@ pub fn copy<V: Volume>(
     requires number { unique + 1 < 2 ^ 64 }
     ensures named { IfOk result (λ done. done.oid.unique ≡ unique) }
     ensures updates { Updates V.Ground volume.old volume.new (copies copying oid.now unique) result }
+    ensures shaped { IfOk result (λ done. LeavesShaped V.Ground volume.old volume.new
+        (copies copying oid.now unique) done.oid) }
     ensures shares { OnOk result (OnlyTakes V.Ground volume.old volume.new) }
     ensures takes { OnOk result (TakesNeed V.Ground volume.old volume.new
         (copies copying oid.now unique)) }

@@ -14,7 +14,7 @@ ghost use Rattle.object_files.specs.Reads.{catalog_on};
 ghost use Rattle.volume_edits.specs.Edits.{WritesCatalog, catalog_numbered};
 ghost use Rattle.file_rooms.specs.Rooms.{ChangesOne};
 ghost use Rattle.volume_edits.specs.TableUpdates.{Makes, TakesNeed};
-ghost use Rattle.session_core.specs.Performed.{Updates};
+ghost use Rattle.session_core.specs.Performed.{LeavesShaped, Updates};
 ghost use Rattle.session_core.specs.Damage.{IsFaultIn, no_version};
 
 use super::Done;
@@ -92,6 +92,8 @@ pub fn create<V: Volume>(
     ensures named { IfOk result (λ done. done.oid.unique ≡ unique) }
     ensures updates { (name : List ℕ)
         → Updates V.Ground volume.old volume.new (Makes name file_no unique) result }
+    ensures shaped { (name : List ℕ) → IfOk result (λ done.
+        LeavesShaped V.Ground volume.old volume.new (Makes name file_no unique) done.oid) }
     ensures takes { (name : List ℕ) → OnOk result (TakesNeed V.Ground volume.old volume.new
         (Makes name file_no unique)) }
     ensures touches { OnOk result (TouchesAtMost V.Ground volume.old volume.new 16) }

@@ -11,6 +11,7 @@ use Rattle.volume_edits.specs.Damage.{as_it_is, ports_own}
 use Rattle.volume_edits.proofs.Damage.{told_version}
 use Rattle.ex_base.proofs.Handed.{cause_of}
 use Rattle.session_core.specs.declared.updates.Done.{Done}
+use Rattle.session_core.proofs.Contents.{edit_shaped, still_shaped}
 use Rattle.session_core.proofs.updates.change.Goals as goal
 
 pub returns-in-Ok-clause-updates : goal.returns-in-Ok-clause-updates
@@ -53,3 +54,11 @@ returns-in-Ok-clause-named g c = still_done c.look_at.result _ (λ (done : Done)
 
 pub returns-in-Err-clause-rooms : goal.returns-in-Err-clause-rooms
 returns-in-Err-clause-rooms g c = inl refl
+
+pub returns-in-Ok-clause-shaped : goal.returns-in-Ok-clause-shaped
+returns-in-Ok-clause-shaped g c =
+    let change = change_of c.args.edit.now in
+    let edited = c.in-Ok.edited in
+    still_shaped g.V.Ground c.args.volume.now c.apply.new.volume c.look_at.new.volume c.look_at.ensures.kept (Changes c.args.oid.now change) (record { oid = c.args.oid.now; gone = edited.gone; come = edited.come }) c.look_at.result
+    (λ records v tells vol asks.
+    edit_shaped g.V.Ground c.args.volume.now c.apply.new.volume c.args.oid.now change edited.gone edited.come c.requires c.apply.ensures.leads c.in-Ok.ensures.nothing c.in-Ok.ensures.edited records v tells vol asks) c.look_at.ensures.same

@@ -2,10 +2,12 @@ use Rattle.std.proofs.Common.{sym, subst}
 use Rattle.std.specs.Prelude.{OnOk, IfErr, IfOk}
 use Rattle.session_core.specs.declared.updates.ObjectUpdate.{ObjectUpdate}
 use Rattle.session_core.specs.Performed.{IsUpdate, asked_of, IsCopying, NamesOid, Updates, charge_of}
-use Rattle.volume_edits.specs.TableUpdates.{TableUpdate, TakesNeed}
+use Rattle.volume_edits.specs.TableUpdates.{Drops, Removes, TableUpdate, TakesNeed}
 use Rattle.session_core.specs.Damage.{IsFaultIn}
 use Rattle.file_index.specs.Touches.{TouchesAtMost}
 use Rattle.session_core.specs.declared.updates.Done.{Done}
+use Rattle.session_core.specs.Performed.{LeavesShaped}
+use Rattle.session_core.proofs.Contents.{none_shaped}
 use Rattle.session_core.proofs.updates.perform.Goals as goal
 
 pub returns-in-Create-clause-takes : goal.returns-in-Create-clause-takes
@@ -119,3 +121,28 @@ returns-in-Drop-clause-touches g c = subst (λ (update : ObjectUpdate). OnOk c.d
 
 pub returns-in-Drop-clause-shares : goal.returns-in-Drop-clause-shares
 returns-in-Drop-clause-shares g c = λ copies. absurd (subst IsCopying c.in-Drop.is copies)
+
+pub returns-in-Create-clause-shaped : goal.returns-in-Create-clause-shaped
+returns-in-Create-clause-shaped g c = λ u is.
+    let made = subst (λ (update : ObjectUpdate). IsUpdate update u) c.in-Create.is is in
+    subst (λ (w : TableUpdate). IfOk c.create.result (λ (done : Done). LeavesShaped g.V.Ground c.args.volume.now c.create.new.volume w done.oid)) (sym made.1) (c.create.ensures.shaped made.0)
+
+pub returns-in-Change-clause-shaped : goal.returns-in-Change-clause-shaped
+returns-in-Change-clause-shaped g c = λ u is.
+    let made = subst (λ (update : ObjectUpdate). IsUpdate update u) c.in-Change.is is in
+    subst (λ (w : TableUpdate). IfOk c.change.result (λ (done : Done). LeavesShaped g.V.Ground c.args.volume.now c.change.new.volume w done.oid)) (sym made) c.change.ensures.shaped
+
+pub returns-in-Remove-clause-shaped : goal.returns-in-Remove-clause-shaped
+returns-in-Remove-clause-shaped g c = λ u is.
+    let made = subst (λ (update : ObjectUpdate). IsUpdate update u) c.in-Remove.is is in
+    subst (λ (w : TableUpdate). IfOk c.remove.result (λ (done : Done). LeavesShaped g.V.Ground c.args.volume.now c.remove.new.volume w done.oid)) (sym made) (none_shaped g.V.Ground c.args.volume.now c.remove.new.volume (Removes c.in-Remove.oid) (λ p q made. tt) c.remove.result)
+
+pub returns-in-Copy-clause-shaped : goal.returns-in-Copy-clause-shaped
+returns-in-Copy-clause-shaped g c = λ u is.
+    let made = subst (λ (update : ObjectUpdate). IsUpdate update u) c.in-Copy.is is in
+    subst (λ (w : TableUpdate). IfOk c.copy.result (λ (done : Done). LeavesShaped g.V.Ground c.args.volume.now c.copy.new.volume w done.oid)) (sym made) c.copy.ensures.shaped
+
+pub returns-in-Drop-clause-shaped : goal.returns-in-Drop-clause-shaped
+returns-in-Drop-clause-shaped g c = λ u is.
+    let made = subst (λ (update : ObjectUpdate). IsUpdate update u) c.in-Drop.is is in
+    subst (λ (w : TableUpdate). IfOk c.drop_frozen.result (λ (done : Done). LeavesShaped g.V.Ground c.args.volume.now c.drop_frozen.new.volume w done.oid)) (sym made) (none_shaped g.V.Ground c.args.volume.now c.drop_frozen.new.volume (Drops c.in-Drop.oid) (λ p q made. tt) c.drop_frozen.result)

@@ -8,6 +8,9 @@ use Rattle.session_core.specs.Damage.{the_version}
 use Rattle.volume_edits.proofs.Damage.{told_version}
 use Rattle.volume_edits.specs.Damage.{as_it_is}
 use Rattle.session_core.proofs.Sessions.{main_read, seen}
+use Rattle.std.specs.Prelude.{◌<◌}
+use Rattle.versions.specs.Damage.{IsFoundAnd, IsReadThrough}
+use Rattle.session_core.proofs.Ways.{way_passed}
 use Rattle.session_core.proofs.session.Session.digest_bytes.Goals as goal
 
 pub invariant_of-self : goal.invariant_of-self
@@ -50,3 +53,8 @@ returns-clause-session g c = seen c.self.view_is c.self.invariant
 
 pub digest_at-requires-clause-room : goal.digest_at-requires-clause-room
 digest_at-requires-clause-room g c = c.requires.buffer
+
+pub returns-clause-way : goal.returns-clause-way
+returns-clause-way g c =
+    let over = over_session c.digest_at.ensures.kept (g.D.World.outside c.args.disk.now) c.self.view_is c.self.invariant refl refl refl refl (λ h. h) in
+    way_passed _ _ c.digest_at.result c.or_stop.result c.or_stop.ensures over (λ geometry image units. 0 < c.args.size → IsFoundAnd geometry image c.args.oid.now (IsReadThrough geometry units 0 c.args.size)) c.digest_at.ensures.reads

@@ -12,6 +12,8 @@ use Rattle.session_core.proofs.Sessions.{main_read, seen}
 use Rattle.std.specs.Prelude.{IfOk, IfSome}
 use Rattle.trees.specs.Roots.{IsRootFor}
 use Rattle.session_core.specs.Sessions.{SessionState}
+use Rattle.session_core.specs.Ways.{IsLookFor}
+use Rattle.session_core.proofs.Ways.{looked_for, way_told}
 use Rattle.session_core.proofs.session.Session.find_version.Goals as goal
 
 pub invariant_of-self : goal.invariant_of-self
@@ -65,3 +67,10 @@ returns-clause-root g c =
 
 pub returns-clause-large : goal.returns-clause-large
 returns-clause-large g c = told_ok c.find.result c.or_stop.result c.or_stop.ensures _ c.find.ensures.large
+
+pub returns-clause-way : goal.returns-clause-way
+returns-clause-way g c =
+    let w = g.D.World.outside c.args.disk.now in
+    let over = over_session c.find.ensures.kept w c.self.view_is c.self.invariant refl refl refl refl (λ h. h) in
+    way_told _ _ c.find.result c.or_stop.result c.or_stop.ensures over (λ geometry image units found. IsLookFor geometry image c.args.oid.now found)
+    (looked_for _ _ c.args.oid.now c.find.result over c.find.ensures.way c.find.ensures.reads)

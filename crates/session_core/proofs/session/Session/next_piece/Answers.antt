@@ -1,5 +1,5 @@
-use Rattle.std.proofs.Common.{◌≡◌, ◌<◌, ap, length, refl, rules, subst, sym, Some, ◌∙◌}
-use Rattle.std.proofs.lemmas.Result.{IfErr-weaker}
+use Rattle.std.proofs.Common.{◌≡◌, ◌<◌, ℕ, ap, length, refl, rules, subst, sym, Some, ◌∙◌}
+use Rattle.std.proofs.lemmas.Result.{IfErr-weaker, on_ok_weaker}
 use Rattle.session_core.specs.Finding.{IsOutside, stop_at}
 use Rattle.session_core.specs.ScanRows.{AtScan, bytes_next, with_scans}
 use Rattle.session_core.specs.Sessions.{SessionState}
@@ -9,9 +9,11 @@ use Rattle.session_core.specs.contracts.session.Session as session
 use Rattle.session_core.proofs.Finding.{error_shown, frames_left, frames_to, no_damage, ok_shown, only_reads, over_session, told_err, told_ok, told_on_ok}
 use Rattle.std.specs.Prelude.{slice_get, OnOk, OnErr, slice_set}
 use Rattle.open_scans.proofs.Rows.{row_there}
+use Rattle.volume_port.specs.Reading.{OthersStay}
 use Rattle.session_core.proofs.Damage.{scan_told}
 use Rattle.session_core.proofs.Sessions.{seen}
-use Rattle.open_scans.specs.OpenScans.{AtRow, row_after}
+use Rattle.open_scans.specs.OpenScans.{AtRow, HasSoundRest, position_of, row_after}
+use Rattle.session_core.proofs.Ways.{way_passed}
 use Rattle.session_core.proofs.session.Session.next_piece.Goals as goal
 
 pub next-requires-clause-ready : goal.next-requires-clause-ready
@@ -75,3 +77,16 @@ pub returns-clause-stays : goal.returns-clause-stays
 returns-clause-stays g c =
     told_err c.next.result c.or_stop.result c.or_stop.ensures (λ _. c.next.new.self ≡ c.args.self.now.scans)
     (subst (λ (t : SessionState). OnErr c.next.result (c.next.new.self ≡ t.scans)) c.self.view_is c.next.ensures.stays)
+
+pub returns-clause-others : goal.returns-clause-others
+returns-clause-others g c row at =
+    let here : slice_get c.self.inside.scans c.args.index ≡ Some row = ap (λ (t : SessionState). slice_get t.scans c.args.index) c.self.view_is ∙ at in
+    subst (λ (t : SessionState). OthersStay row.group t.groups c.next.new.blocks.groups.now) c.self.view_is
+    (subst (λ (i : ℕ). OthersStay i (session.the_view c.self.inside).groups c.next.new.blocks.groups.now)
+    (c.group_at-group.ensures row here) c.next.ensures.kept.leads.others)
+
+pub returns-clause-way : goal.returns-clause-way
+returns-clause-way g c =
+    let over = over_session c.next.ensures.kept (g.D.World.outside c.args.disk.now) c.self.view_is c.self.invariant refl refl refl refl (λ h. h) in
+    way_passed _ _ c.next.result c.or_stop.result c.or_stop.ensures over (λ geometry image units. AtRow c.args.self.now.scans c.args.index (λ row. HasSoundRest geometry units c.args.len (position_of row.scan)))
+    (on_ok_weaker c.next.result (λ way tells row at. way tells row (ap (λ (t : SessionState). slice_get t.scans c.args.index) c.self.view_is ∙ at)) c.next.ensures.way)

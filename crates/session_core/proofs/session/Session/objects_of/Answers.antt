@@ -7,6 +7,8 @@ use Rattle.session_core.proofs.Damage.{damage_told}
 use Rattle.session_core.specs.Damage.{no_version}
 use Rattle.volume_edits.specs.Damage.{as_it_is, of_walk}
 use Rattle.session_core.proofs.Sessions.{main_read, seen}
+use Rattle.versions.specs.Damage.{IsWalkedOut}
+use Rattle.session_core.proofs.Ways.{way_passed}
 use Rattle.session_core.proofs.session.Session.objects_of.Goals as goal
 
 pub invariant_of-self : goal.invariant_of-self
@@ -41,3 +43,8 @@ objects-requires g c = main_read (session.the_view c.self.inside) c.args.self.no
 
 pub returns-clause-session : goal.returns-clause-session
 returns-clause-session g c = seen c.self.view_is c.self.invariant
+
+pub returns-clause-way : goal.returns-clause-way
+returns-clause-way g c =
+    let over = over_session c.objects.ensures.kept (g.D.World.outside c.args.disk.now) c.self.view_is c.self.invariant refl refl refl refl (λ h. h) in
+    way_passed _ _ c.objects.result c.or_stop.result c.or_stop.ensures over (λ geometry image units. IsWalkedOut geometry image c.args.file_no) c.objects.ensures.walk

@@ -7,6 +7,9 @@ use Rattle.session_core.specs.Damage.{the_version}
 use Rattle.volume_edits.proofs.Damage.{told_version}
 use Rattle.volume_edits.specs.Damage.{as_it_is}
 use Rattle.session_core.proofs.Sessions.{main_read, seen}
+use Rattle.std.specs.Prelude.{length}
+use Rattle.versions.specs.Damage.{IsFoundAnd, IsReadThrough}
+use Rattle.session_core.proofs.Ways.{way_passed}
 use Rattle.session_core.proofs.session.Session.read_bytes.Goals as goal
 
 pub invariant_of-self : goal.invariant_of-self
@@ -46,3 +49,10 @@ read_at-requires g c = main_read (session.the_view c.self.inside) c.args.self.no
 
 pub returns-clause-session : goal.returns-clause-session
 returns-clause-session g c = seen c.self.view_is c.self.invariant
+
+pub returns-clause-way : goal.returns-clause-way
+returns-clause-way g c =
+    let w = g.D.World.outside c.args.disk.now in
+    let over = over_session c.read_at.ensures.kept w c.self.view_is c.self.invariant refl refl refl refl (λ h. h) in
+    way_passed _ _ c.read_at.result c.or_stop.result c.or_stop.ensures over (λ geometry image units. IsFoundAnd geometry image c.args.oid.now (IsReadThrough geometry units c.args.pos (length c.args.out.now)))
+    c.read_at.ensures.reads

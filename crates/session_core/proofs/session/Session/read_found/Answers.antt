@@ -1,8 +1,10 @@
 use Rattle.std.proofs.Common.{◌∙◌, sym, Option, subst}
 use Rattle.std.proofs.lemmas.Result.{IfErr-weaker, on_ok_weaker}
-use Rattle.std.specs.Prelude.{IfErr}
+use Rattle.std.specs.Prelude.{IfErr, IfSome, OnOk, length}
 use Rattle.ex_base.specs.declared.names.Root.{Root}
-use Rattle.session_core.specs.Damage.{TellsOfFound}
+use Rattle.session_core.specs.Damage.{TellsOfFound, units_on}
+use Rattle.volume_port.specs.Reading.{TellsBytes}
+use Rattle.versions.specs.Damage.{HasSoundWay}
 use Rattle.session_core.proofs.session.Session.read_found.Goals as goal
 
 pub returns-in-Some-clause-bytes : goal.returns-in-Some-clause-bytes
@@ -25,3 +27,11 @@ returns-in-Some-clause-damage g c =
 pub returns-in-None-clause-damage : goal.returns-in-None-clause-damage
 returns-in-None-clause-damage g c =
     subst (λ (root : Option Root). IfErr c.read_bytes.result (TellsOfFound (g.D.World.outside c.args.disk.now) (g.D.World.outside c.read_bytes.new.disk) c.args.self.now c.args.version.now.oid root)) (sym c.in-None.is) c.read_bytes.ensures.damage
+
+pub returns-in-Some-clause-way : goal.returns-in-Some-clause-way
+returns-in-Some-clause-way g c =
+    subst (λ (root : Option Root). OnOk c.read_tree.result (TellsBytes (g.D.World.outside c.args.disk.now) c.args.self.now.groups → IfSome root (HasSoundWay c.args.self.now.geometry (units_on (g.D.World.outside c.args.disk.now) c.args.self.now) c.args.pos (length c.args.out.now)))) (sym c.in-Some.is) c.read_tree.ensures.way
+
+pub returns-in-None-clause-way : goal.returns-in-None-clause-way
+returns-in-None-clause-way g c = on_ok_weaker c.read_bytes.result (λ read tells.
+    subst (λ (root : Option Root). IfSome root (HasSoundWay c.args.self.now.geometry (units_on (g.D.World.outside c.args.disk.now) c.args.self.now) c.args.pos (length c.args.out.now))) (sym c.in-None.is) tt) c.read_bytes.ensures.way

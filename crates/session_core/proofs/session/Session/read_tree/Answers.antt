@@ -7,6 +7,9 @@ use Rattle.session_core.proofs.Damage.{tree_told}
 use Rattle.session_core.proofs.Sessions.{main_read, seen}
 use Rattle.trees.specs.Roots.{IsRootFor}
 use Rattle.session_core.specs.Sessions.{SessionState}
+use Rattle.std.specs.Prelude.{length}
+use Rattle.versions.specs.Damage.{HasSoundWay}
+use Rattle.session_core.proofs.Ways.{way_passed}
 use Rattle.session_core.proofs.session.Session.read_tree.Goals as goal
 
 pub invariant_of-self : goal.invariant_of-self
@@ -45,3 +48,8 @@ read-requires-clause-range g c = c.requires.range
 
 pub returns-clause-session : goal.returns-clause-session
 returns-clause-session g c = seen c.self.view_is c.self.invariant
+
+pub returns-clause-way : goal.returns-clause-way
+returns-clause-way g c =
+    let over = over_session c.read.ensures.kept (g.D.World.outside c.args.disk.now) c.self.view_is c.self.invariant refl refl refl refl (λ h. h) in
+    way_passed _ _ c.read.result c.or_stop.result c.or_stop.ensures over (λ geometry image units. HasSoundWay geometry units c.args.pos (length c.args.out.now) c.args.root.now) c.read.ensures.way

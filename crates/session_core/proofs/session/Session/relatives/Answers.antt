@@ -8,6 +8,8 @@ use Rattle.session_core.proofs.Finding.{frames_left, frames_to, no_damage, only_
 use Rattle.session_core.proofs.Damage.{damage_told}
 use Rattle.session_core.specs.Damage.{the_version}
 use Rattle.session_core.proofs.Sessions.{main_read, seen}
+use Rattle.session_core.specs.Ways.{HasReadRelatives}
+use Rattle.session_core.proofs.Ways.{way_passed}
 use Rattle.session_core.proofs.session.Session.relatives.Goals as goal
 
 pub invariant_of-self : goal.invariant_of-self
@@ -43,3 +45,8 @@ relatives_in-requires g c = main_read (session.the_view c.self.inside) c.args.se
 
 pub returns-clause-session : goal.returns-clause-session
 returns-clause-session g c = seen c.self.view_is c.self.invariant
+
+pub returns-clause-way : goal.returns-clause-way
+returns-clause-way g c =
+    let over = over_session c.relatives_in.ensures.kept (g.D.World.outside c.args.disk.now) c.self.view_is c.self.invariant refl refl refl refl (λ h. h) in
+    way_passed _ _ c.relatives_in.result c.or_stop.result c.or_stop.ensures over (λ geometry image units. HasReadRelatives c.args.relation geometry image c.args.oid.now) c.relatives_in.ensures.way

@@ -8,6 +8,8 @@ use Rattle.session_core.proofs.Damage.{tree_told}
 use Rattle.session_core.proofs.Sessions.{main_read, seen}
 use Rattle.trees.specs.Roots.{IsRootFor}
 use Rattle.session_core.specs.Sessions.{SessionState}
+use Rattle.session_core.specs.Ways.{IsSoundTree}
+use Rattle.session_core.proofs.Ways.{way_passed}
 use Rattle.session_core.proofs.session.Session.shape.Goals as goal
 
 pub invariant_of-self : goal.invariant_of-self
@@ -47,3 +49,8 @@ leaf_lengths-requires-clause-root g c = subst (λ (t : SessionState). IsRootFor 
 
 pub returns-clause-session : goal.returns-clause-session
 returns-clause-session g c = seen c.self.view_is c.self.invariant
+
+pub returns-clause-way : goal.returns-clause-way
+returns-clause-way g c =
+    let over = over_session c.leaf_lengths.ensures.kept (g.D.World.outside c.args.disk.now) c.self.view_is c.self.invariant refl refl refl refl (λ h. h) in
+    way_passed _ _ c.leaf_lengths.result c.or_stop.result c.or_stop.ensures over (λ geometry image units. IsSoundTree geometry units c.args.root.now) c.leaf_lengths.ensures.way

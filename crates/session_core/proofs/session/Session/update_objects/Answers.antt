@@ -23,6 +23,8 @@ use Rattle.session_core.proofs.Moved.{at_oid, given_up_at, has_roots, has_seen, 
 use Rattle.session_core.proofs.session.Session.update_objects.Goals.{else-is_ok-via-then-is_ok+else-is_ok-2, else-is_ok-via-else-is_ok, in-Err, in-Ok}
 use Rattle.session_core.specs.Damage.{IsUpdateFault, TellsDamage}
 use Rattle.session_core.proofs.UpdateDamage.{update_told}
+use Rattle.ex_base.specs.declared.geometry.Geometry.{Geometry}
+use Rattle.session_core.specs.Contents.{Shaped, pages_on, pages_over}
 use Rattle.session_core.proofs.session.Session.update_objects.Goals as goal
 
 pub update_volume-done-requires-clause-ready : goal.update_volume-done-requires-clause-ready
@@ -149,11 +151,11 @@ returns-clause-damage g c =
     let b = outside c.update_volume-done.new.disk in
     let asked = asked_of c.args.update.now in
     let stops = λ (r : Result Oid Stop). IfErr r (TellsDamage (outside c.args.host.now) b c.args.self.now asked) in
-    elim c.match-done.branch [
+    λ honest. elim c.match-done.branch [
       | in-Ok w ↦ subst stops (sym w.result-is) tt
       | in-Err w ↦ subst stops (sym w.result-is)
           (let told = subst (λ (r : Result Done PortFault). IfErr r (IsUpdateFault (outside c.args.host.now) b c.self.inside.volume s.gained asked)) w.in-Err.is c.update_volume-done.ensures.fault in
-          subst (λ (t : SessionState). TellsDamage (outside c.args.host.now) b t asked w.stopped.result) c.self.view_is (update_told (outside c.args.host.now) b s asked w.in-Err.fault w.stopped.result w.stopped.ensures told))
+          subst (λ (t : SessionState). TellsDamage (outside c.args.host.now) b t asked w.stopped.result) c.self.view_is (update_told (outside c.args.host.now) b s asked w.in-Err.fault w.stopped.result w.stopped.ensures told honest))
     ]
 
 pub returns-clause-named : goal.returns-clause-named
@@ -197,3 +199,22 @@ returns-then-is_ok-2-clause-shares g c copies =
     let p = c.update_volume-done.new.volume in
     subst (λ (t : SessionState). TakesLogged t.units p.units p.pages) c.self.view_is
     (when_done c.update_volume-done.result (sym c.is_ok.ensures.value ∙ c.if-is_ok.true) (c.update_volume-done.ensures.shares copies))
+
+pub returns-then-is_ok-2-clause-shaped : goal.returns-then-is_ok-2-clause-shaped
+returns-then-is_ok-2-clause-shaped g c = λ before same now u is asked.
+    let s = session.the_view c.self.inside in
+    let p = c.update_volume-done.new.volume in
+    let a = g.H.World.outside c.args.host.now in
+    let b = g.H.World.outside c.update_volume-done.new.disk in
+    let oid = c.noted-noted.result.oid in
+    subst (λ (t : SessionState). Shaped (pages_on a t) (pages_over p.geometry p.meta b) u oid) c.self.view_is
+    (subst (λ (h : Geometry). Shaped (pages_on a s) (pages_over h p.meta b) u oid) (sym (ap (λ (v : VolumeState). v.geometry) c.update_volume-done.ensures.moved.rest))
+    (at_oid (λ (oid : Oid). IfAsked a c.self.inside.volume c.args.update.now (λ before u. Shaped (pages_over s.geometry s.meta a) (pages_over s.geometry p.meta b) u oid))
+    c.args.note.now c.noted-noted.result c.update_volume-done.result (sym c.is_ok.ensures.value ∙ c.if-is_ok.true) c.noted-noted.ensures c.update_volume-done.ensures.shaped
+    before (has_seen s c.args.self.now before c.self.view_is same c.self.invariant) now u is asked))
+
+pub returns-clause-shaped : goal.returns-clause-shaped
+returns-clause-shaped g c = elim c.match-done.branch [
+  | in-Ok w ↦ none_answered _ _ _ w.result-is
+  | in-Err w ↦ none_answered _ _ _ w.result-is
+]

@@ -4,7 +4,7 @@ use Rattle.ex_base.specs.declared.names.Area.TheVariants.{Page}
 use Rattle.session_core.specs.Performed.{CanPerform}
 use Rattle.page_alloc.specs.UnitSet.{UnitSet, free_count, used_at}
 use Rattle.session_core.proofs.Moving.{IsMade, begins_over, fits_there, later_at, made_of, moved_at, parts_same, ready_of, ready_there, volume_moved}
-use Rattle.session_core.proofs.Performing.{performed_kept, performed_owns, performed_shown, performed_sound}
+use Rattle.session_core.proofs.Performing.{performed_kept, performed_owns, performed_shaped, performed_shown, performed_sound}
 use Rattle.session_core.proofs.PortParts.{pairs_named}
 use Rattle.session_core.proofs.TakingPages.{logged_at}
 use Rattle.session_core.proofs.UpdateDamage.{performed_fault}
@@ -65,6 +65,16 @@ returns-clause-owns g c = λ v has ready.
     let b = c.perform.new.volume in
     performed_owns _ a c.perform.new.volume c.args.update.now c.perform.result c.perform.ensures.updates (outside c.args.disk.now) v begins pairs_named c.perform.ensures.leads _ (returns-clause-moved g c v has ready)
     (later_at _ b outside b.store.disk.now _ _ v.geometry _ _ (search rules fits 500) (c.perform.ensures.leads.store.geometry ∙ made.geometry) (parts_same v b.store.units.now _ b.store.groups.now _ b.meta.now _ b.pages.now _ (search rules fits 500) (search rules fits 500) (search rules fits 500) (search rules fits 500)) (record { geometry_is = refl; unit = refl; image = refl; held = refl; used = refl; refs = refl; free = refl }))
+
+pub returns-clause-shaped : goal.returns-clause-shaped
+returns-clause-shaped g c = λ v has ready.
+    let outside = g.D.World.outside in
+    let a = c.make-port.result in
+    let made = made_at g c v has in
+    let begins = begins_over outside v c.args.disk.now a.store.disk.now _ _ _ _ _ _ made ready _ a (λ fits are. ready_of _ a.store _ _ made.geometry refl fits are) (record { geometry_is = refl; unit = refl; image = refl; held = refl; used = refl; refs = refl; free = refl }) (λ told. told) in
+    let b = c.perform.new.volume in
+    performed_shaped _ a c.perform.new.volume c.args.update.now c.perform.result c.perform.ensures.updates (outside c.args.disk.now) v begins pairs_named c.perform.ensures.leads _ (returns-clause-moved g c v has ready)
+    (later_at _ b outside b.store.disk.now _ _ v.geometry _ _ (search rules fits 500) (c.perform.ensures.leads.store.geometry ∙ made.geometry) (parts_same v b.store.units.now _ b.store.groups.now _ b.meta.now _ b.pages.now _ (search rules fits 500) (search rules fits 500) (search rules fits 500) (search rules fits 500)) (record { geometry_is = refl; unit = refl; image = refl; held = refl; used = refl; refs = refl; free = refl })) c.perform.ensures.shaped
 
 pub returns-clause-sound : goal.returns-clause-sound
 returns-clause-sound g c = λ v has ready.

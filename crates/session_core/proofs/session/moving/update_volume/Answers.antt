@@ -18,6 +18,9 @@ use Rattle.volume_model.specs.Held.{root_here}
 use Rattle.volume_port.specs.GivingUp.{OwnRoots}
 use Rattle.session_core.specs.Turning.{TakenOut}
 use Rattle.ex_base.specs.Area.{area_end}
+use Rattle.session_core.specs.Contents.{Shaped, VolumePages, pages_over}
+use Rattle.session_core.proofs.PortParts.{same_disk}
+use Rattle.meta_pages.specs.Overlays.{Overlays}
 use Rattle.session_core.proofs.session.moving.update_volume.Goals as goal
 
 pub update_parts-requires-clause-ready : goal.update_parts-requires-clause-ready
@@ -129,3 +132,16 @@ sweep-requires-clause-flags g c =
     let has : HasParts v v.geometry v.units v.groups v.meta v.pages = record { geometry = refl; parts = refl } in
     let moved = c.update_parts.ensures.moved v has c.requires.ready in
     subst (λ (q : VolumeState). length q.kept ≡ area_end q.meta.geometry) (sym c.turn_roots.ensures.rest) (c.requires.ready.kept_len ∙ ap area_end (sym moved.ready.overlay))
+
+pub returns-clause-shaped : goal.returns-clause-shaped
+returns-clause-shaped g c = λ before seen now w is asked.
+    let v = c.args.volume.now in
+    let u = c.update_parts.new in
+    let a = g.D.World.outside c.args.disk.now in
+    let b = g.D.World.outside u.disk in
+    let later = g.D.World.outside c.turn_roots.new.disk in
+    let oid = c.in_ok-done.done.oid in
+    let has : HasParts v v.geometry v.units v.groups v.meta v.pages = record { geometry = refl; parts = refl } in
+    subst (λ (meta : Overlays). Shaped (pages_over v.geometry v.meta a) (pages_over v.geometry meta later) w oid) (sym (ap (λ (q : VolumeState). q.meta) c.turn_roots.ensures.rest))
+    (subst (λ (p : VolumePages). Shaped (pages_over v.geometry v.meta a) p w oid) (same_disk v.geometry u.meta b later (sym c.turn_roots.ensures.gives.only.nothing.disk))
+    (c.in_ok-done.ensures.shaped v has c.requires.ready before seen now w is asked))

@@ -1,10 +1,11 @@
 use Rattle.std.proofs.Common.{◌≡◌, refl, subst}
-use Rattle.std.specs.Prelude.{IfOk}
+use Rattle.std.specs.Prelude.{IfOk, OnOk}
 use Rattle.std.proofs.lemmas.Result.{IfErr-weaker, IfOk-weaker}
 use Rattle.ex_base.proofs.Results.{if_err_handed, if_ok_both}
 use Rattle.volume_edits.specs.Damage.{as_it_is}
 use Rattle.volume_edits.proofs.Damage.{told_derived, told_older, told_versions}
 use Rattle.session_core.specs.Damage.{the_version}
+use Rattle.session_core.specs.Ways.{HasReadRelatives}
 use Rattle.session_core.specs.Finding.{AreRelatives}
 use Rattle.session_core.specs.declared.session.relatives.Relation.{Relation}
 use Rattle.session_core.specs.declared.session.relatives.Relation.TheVariants as relation
@@ -53,3 +54,22 @@ returns-in-Derived-clause-fault g c = IfErr-weaker c.derived.result _ _ (λ faul
 pub returns-in_err-older-in-Older-clause-fault : goal.returns-in_err-older-in-Older-clause-fault
 returns-in_err-older-in-Older-clause-fault g c = if_err_handed c.from_residual.result _ _ c.from_residual.ensures.1
     (λ told. as_it_is (told_older _ _ (the_version c.args.oid.now) c.args.oid.now _ refl (c.in_err-older-in-Older.ensures.fault told)))
+
+pub returns-in-Object-clause-way : goal.returns-in-Object-clause-way
+returns-in-Object-clause-way g c =
+    let asked = c.in-Object.is in
+    let same : relation.Object ≡ c.args.relation = cc in
+    subst (λ (r : Relation). OnOk c.versions.result (g.V.Ground.tells c.args.volume.now → HasReadRelatives r (g.V.Ground.geometry c.args.volume.now) (g.V.Ground.image c.args.volume.now) c.args.oid.now)) same c.versions.ensures.reads
+
+pub returns-in-Derived-clause-way : goal.returns-in-Derived-clause-way
+returns-in-Derived-clause-way g c =
+    let asked = c.in-Derived.is in
+    let same : relation.Derived ≡ c.args.relation = cc in
+    subst (λ (r : Relation). OnOk c.derived.result (g.V.Ground.tells c.args.volume.now → HasReadRelatives r (g.V.Ground.geometry c.args.volume.now) (g.V.Ground.image c.args.volume.now) c.args.oid.now)) same c.derived.ensures.reads
+
+pub returns-in_ok-listed-in-Older-clause-way : goal.returns-in_ok-listed-in-Older-clause-way
+returns-in_ok-listed-in-Older-clause-way g c = λ tells.
+    let asked = c.in-Older.is in
+    let same : relation.Older ≡ c.args.relation = cc in
+    let read = c.in_ok-older-in-Older.ensures.reads tells in
+    subst (λ (r : Relation). HasReadRelatives r (g.V.Ground.geometry c.args.volume.now) (g.V.Ground.image c.args.volume.now) c.args.oid.now) same (record { body = read.body; version = read.version; holds = read.holds.0 })

@@ -9,14 +9,12 @@ use Rattle.ex_base.proofs.Results.{from_ok}
 use Rattle.session_core.specs.declared.updates.copying.Copying.{Copying}
 use Rattle.session_core.specs.declared.updates.copying.Copying.TheVariants as copying
 use Rattle.session_core.specs.Performed.{copies}
-use Rattle.volume_edits.specs.TableUpdates.{TakesNeed}
 use Rattle.session_core.specs.Performed.{Updates}
 use Rattle.session_core.proofs.Copied.{copy_taken, derive_failed, derived_made, freeze_failed, frozen_made, uncounted, unfiled}
 use Rattle.session_core.proofs.Followed.{still_taken, still_updated, copied_few, still_done, still_touches, touches_on}
 use Rattle.file_rooms.specs.Rooms.{ChangesOne}
 use Rattle.volume_edits.specs.Damage.{ports_own}
 use Rattle.versions.proofs.Results.{ok_of}
-use Rattle.session_core.proofs.TakingPages.{keeps_takes, takes_both}
 use Rattle.volume_edits.proofs.UnitsTaken.{pages_taken}
 use Rattle.session_core.proofs.updates.copying.copy.Goals as goal
 use Rattle.ex_base.proofs.Results.{if_err_handed}
@@ -30,6 +28,9 @@ use Rattle.ex_base.proofs.Handed.{cause_after, cause_of, handed_after}
 use Rattle.file_bodies.specs.Touches.{body_pages}
 use Rattle.version_tree.specs.Touches.{version_touches}
 use Rattle.session_core.specs.declared.updates.Done.{Done}
+use Rattle.session_core.specs.Performed.{LeavesShaped}
+use Rattle.session_core.proofs.Contents.{still_shaped}
+use Rattle.session_core.proofs.Copied.{derived_shaped, frozen_shaped}
 use Rattle.session_core.proofs.updates.copying.copy.Goals.{in-Freeze, in-Derive}
 
 pub returns-in_err-count_number-clause-updates : goal.returns-in_err-count_number-clause-updates
@@ -226,3 +227,26 @@ returns-in-Err-clause-cause g c =
           subst (λ volume. Cause (g.V.Ground.faults c.args.volume.now) (g.V.Ground.faults volume) c.in-Err.fault) (sym w.volume-is)
           (cause_after g.V.Ground c.args.volume.now c.file_of.new.volume (g.V.Ground.leads_trans c.args.volume.now c.count_number.new.volume c.file_of.new.volume c.count_number.ensures.leads c.file_of.ensures.kept.leads) w.derive-copied.new.volume c.in-Err.fault (MatchResult-at_err _ _ c.in-Err.fault failed w.derive-copied.ensures.cause))
     ])
+
+pub returns-in-Ok-clause-shaped : goal.returns-in-Ok-clause-shaped
+returns-in-Ok-clause-shaped g c =
+    let G = g.V.Ground in
+    let old = c.args.volume.now in
+    let oid = c.args.oid.now in
+    let unique = c.args.unique in
+    let made = c.in-Ok.made in
+    let mid = c.count_number.new.volume in
+    let room = c.of_copy-asked.ensures.file in
+    let filed = subst (λ (place : Place). G.tells mid → (index : Index) (body : List ℕ) → HasBody G mid index place body → index.file_no ≡ c.in_ok-file_of.field-0) c.place_of.ensures c.in_ok-file_of.ensures.number in
+    still_shaped G old c.match-copying.volume c.look_at.new.volume c.look_at.ensures.kept (copies c.args.copying oid unique) (record { oid = made.oid; gone = None; come = made.come }) c.look_at.result (elim c.match-copying.branch [
+      | in-Freeze w ↦
+          subst (λ (k : Copying). LeavesShaped G old c.match-copying.volume (copies k oid unique) made.oid) (sym w.in-Freeze.is)
+          (subst (λ volume. LeavesShaped G old volume (copies copying.Freeze oid unique) made.oid) (sym w.volume-is)
+          (frozen_shaped G old w.freeze-copied.new.volume oid unique mid c.file_of.new.volume c.count_number.ensures.leads c.in_ok-count_number.ensures.counts c.file_of.ensures.kept c.in_ok-file_of.field-0 c.of_copy-asked.result.file_no room filed
+          made.oid (IfOk-at_ok _ (sym w.copied-is ∙ c.in-Ok.is) w.freeze-copied.ensures.frozen)))
+      | in-Derive w ↦
+          subst (λ (k : Copying). LeavesShaped G old c.match-copying.volume (copies k oid unique) made.oid) (sym w.in-Derive.is)
+          (subst (λ volume. LeavesShaped G old volume (copies copying.Derive oid unique) made.oid) (sym w.volume-is)
+          (derived_shaped G old w.derive-copied.new.volume oid unique mid c.file_of.new.volume c.count_number.ensures.leads c.in_ok-count_number.ensures.counts c.file_of.ensures.kept c.in_ok-file_of.field-0 c.of_copy-asked.result.file_no room filed
+          made.oid (IfOk-at_ok _ (sym w.copied-is ∙ c.in-Ok.is) w.derive-copied.ensures.derived)))
+    ]) c.look_at.ensures.same

@@ -18,6 +18,7 @@ use Rattle.ex_base.specs.declared.names.Area.TheVariants.{Page}
 use Rattle.ex_base.proofs.Handed.{cause_after, cause_of}
 use Rattle.file_bodies.specs.Touches.{body_pages, body_touches}
 use Rattle.session_core.specs.declared.updates.Done.{Done}
+use Rattle.session_core.proofs.Contents.{object_shaped, still_shaped}
 use Rattle.session_core.proofs.updates.creating.create.Goals as goal
 
 pub returns-in_err-count_number-clause-updates : goal.returns-in_err-count_number-clause-updates
@@ -108,3 +109,15 @@ returns-in-Err-clause-leads g c = (g.V.Ground.leads_trans c.args.volume.now c.co
 
 pub returns-in-Err-clause-cause : goal.returns-in-Err-clause-cause
 returns-in-Err-clause-cause g c = cause_after g.V.Ground c.args.volume.now c.count_number.new.volume c.count_number.ensures.leads c.create.new.volume c.in-Err.fault c.in-Err.ensures.cause
+
+pub returns-in-Ok-clause-shaped : goal.returns-in-Ok-clause-shaped
+returns-in-Ok-clause-shaped g c = λ name.
+    let G = g.V.Ground in
+    let old = c.args.volume.now in
+    let mid = c.count_number.new.volume in
+    let new = c.create.new.volume in
+    still_shaped G old new c.look_at.new.volume c.look_at.ensures.kept (Makes name c.args.file_no c.args.unique) (record { oid = c.in-Ok.oid; gone = None; come = None }) c.look_at.result
+    (λ records v told vol asks.
+    object_shaped G mid new (index_named asks.entry) c.in-Ok.oid
+    (c.in-Ok.ensures.anywhere (G.leads_told old mid c.count_number.ensures.leads told) (index_named asks.entry)
+    (its_file G old mid records v vol name c.args.file_no c.args.unique asks (c.in_ok-count_number.ensures.counts told)) (asks.number ∙ sym c.of_file-asked.ensures.file))) c.look_at.ensures.same
