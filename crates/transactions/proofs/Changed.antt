@@ -55,6 +55,8 @@ use Rattle.transactions.proofs.Naming.{the_oid_named, the_size_named}
 use Rattle.session_core.proofs.Quiet.{with_groups}
 use Rattle.transactions.proofs.Updated.{KeptTo, machine_with, noted_steps, own_names, pick_then, room_left, same_machine, same_session, view_then, within_need}
 use Rattle.transactions.specs.Lines.{WentOn}
+use Rattle.session_core.specs.Contents.{Shaped, pages_on}
+use Rattle.transactions.proofs.Contents.{edit_lies}
 use Rattle.transactions.proofs.UpdateLines.{counted_then, frames_of, line_refused, opened_then, update_done, update_stopped}
 
 -- ---- where the session read
@@ -292,15 +294,19 @@ module _ {a b : Outside} {old mid : SessionState} (x : Reference) (change : Chan
     pub changed_so : (oid : Oid) (n : OpNote) (size : ℕ) (told : Reply) → oid ≡ given.version.oid → n ≡ edit_note change given.version.oid given.version.found.size
         → size ≡ size_after change given.version.found.size → told ≡ edit_reply change size → Noted mid new (note_with n oid) → length new.meta.working ≤ length mid.meta.working + 1
         → IfUpdated b mid (made.Change given.version.oid edit) (TakesAtMost (free_in new))
-        → IfUpdated b mid (made.Change given.version.oid edit) (λ before u. HoldsTable before c (volume_held new) new.gained new.lost (update.updated u oid (shown before.machine))) → UpdatesLine a c old new r (Ok told)
-    changed_so oid n size told named noting sized telling noted touched kept holds =
+        → IfUpdated b mid (made.Change given.version.oid edit) (λ before u. HoldsTable before c (volume_held new) new.gained new.lost (update.updated u oid (shown before.machine)))
+        → IfUpdated b mid (made.Change given.version.oid edit) (λ before u. Shaped (pages_on b mid) (pages_on c new) u oid) → UpdatesLine a c old new r (Ok told)
+    changed_so oid n size told named noting sized telling noted touched kept holds lies =
         let did : Noted mid new (note_with (edit_note change given.version.oid given.version.found.size) oid) = subst (λ (o : OpNote). Noted mid new (note_with o oid)) noting noted in
         let is_told : told ≡ edit_reply change (size_after change given.version.found.size) = telling ∙ ap (edit_reply change) sized in
         subst (λ (t : Reply). UpdatesLine a c old new r (Ok t)) (sym is_told)
         (update_done r world is read went (edit_reply change (size_after change given.version.found.size)) (never_no change (size_after change given.version.found.size)) (λ before same now later.
         change_steps later (counted_then read is) (opened_then read is_open) x change given (admitted_then before x change given same read (admitted before same now)) (within_then change given read within) new oid named went.only did touched
         (kept (with_groups before mid) refl later (update.Changes given.version.oid change) (ap (λ (c : Change). update.Changes given.version.oid c) same_change) (asks_then before same now))
-        (holds (with_groups before mid) refl later (update.Changes given.version.oid change) (ap (λ (c : Change). update.Changes given.version.oid c) same_change) (asks_then before same now)) r asked))
+        (holds (with_groups before mid) refl later (update.Changes given.version.oid change) (ap (λ (c : Change). update.Changes given.version.oid c) same_change) (asks_then before same now)) r asked)
+        (λ before same now later.
+        edit_lies before.machine (pages_on b mid) (pages_on c new) r x change given.version.oid (size_after change given.version.found.size) asked (the_oid_named before x given.version (admitted before same now).named)
+        (lies (with_groups before mid) refl later (update.Changes given.version.oid change) (ap (λ (c : Change). update.Changes given.version.oid c) same_change) (asks_then before same now))))
 
     pub change_stopped : (why : Stop) → LineStops b c why → IfUpdated b mid (made.Change given.version.oid edit) (λ before u. HasRoomFor before u → IsOutside why) → UpdatesLine a c old new r (Err why)
     change_stopped why stops sound = update_stopped r world is read went why stops (λ before same now later.

@@ -42,6 +42,7 @@ use Rattle.session_core.proofs.Quiet.{same_view, shown_lends, with_groups}
 use Rattle.session_core.proofs.Refusing.{closed_refused, none_is_false}
 use Rattle.volume_model.proofs.Showing.{shows_catalog}
 use Rattle.transactions.specs.declared.copying.Original.{Original}
+use Rattle.session_core.specs.Contents.{CopyShaped}
 use Rattle.transactions.specs.Copies.{CanCopy, IsOriginal, MayCopy, copies_frozen, copy_kind, copy_refusal, copy_reply, copy_request, found_refusal, kind_refusal}
 use Rattle.transactions.specs.Editing.{room_refusal}
 use Rattle.transactions.specs.Lines.{Answered, UpdatesLine, WentOn}
@@ -223,6 +224,7 @@ copy_makes m table copying.Freeze x bind given is = record {
   pages = λ q. refl;
   segs = λ q. refl;
   takes = λ v free takes. takes;
+  lies = λ old new oid copy. subst (λ (o : Oid). CopyShaped old new o oid) (sym is.own) copy;
   last = λ oid. refl;
   vacant = λ oid number apart. freeze_vacant m.geometry (shown m) table oid number given.oid is.version is.is is.named is.flag apart;
 }
@@ -237,6 +239,7 @@ copy_makes m table copying.Derive x bind given is = record {
   pages = λ q. refl;
   segs = λ q. refl;
   takes = λ v free takes. takes;
+  lies = λ old new oid copy. subst (λ (o : Oid). CopyShaped old new o oid) (sym is.own) copy;
   last = λ oid. refl;
   vacant = λ oid number apart. derive_vacant m.geometry (shown m) table oid number given.oid is.version is.is is.named is.flag apart;
 }

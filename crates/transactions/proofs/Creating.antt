@@ -211,6 +211,7 @@ module _ {a b c : Outside} {old mid new : SessionState} (file : List ℕ) (bind 
       pages = λ q. refl;
       segs = λ q. refl;
       takes = λ v free takes. takes;
+      lies = λ old new oid small. small;
       last = λ oid. refl;
       vacant = λ oid number apart. create_vacant before.machine.geometry (shown before.machine) (shown_is before.machine now.shows.rules) oid number file there_is apart;
     }

@@ -15,6 +15,7 @@ mod Listing
 mod Made
 mod Naming
 mod Opened
+mod QuietCommands
 mod Closed
 mod Refusing
 mod StoppedSteps
@@ -23,9 +24,12 @@ mod Removed
 mod ScanLines
 mod Shaping
 mod Unfiled
+mod Contents
 mod UpdateLines
 mod Updated
 mod Vacancy
 mod Damage
 mod Summing
+mod Through
 mod OnlyOne
+mod Ways

@@ -48,6 +48,8 @@ use Rattle.session_core.proofs.Taken.{taken_as}
 use Rattle.transactions.specs.Lines.{Answered, UpdatesLine, WentOn}
 use Rattle.transactions.specs.Making.{MakesVersion, is_bound_if, making_need, takes_if}
 use Rattle.transactions.proofs.Updated.{KeptTo, charge_most, machine_then, machine_with, noted_steps, pick_then, same_machine, within_need}
+use Rattle.session_core.specs.Contents.{Shaped, VolumePages, pages_on}
+use Rattle.transactions.specs.Contents.{LineShaped}
 use Rattle.transactions.proofs.UpdateLines.{counted_then, opened_then, update_done}
 
 -- ---- its number, and its room
@@ -115,6 +117,7 @@ pub record Makes (m : Machine) (r : Request) (bind : Option (List ℕ)) (kind : 
   pub pages : (q : Pick) → 16 ≡ need m.geometry r q Page
   pub segs : (q : Pick) → 0 ≡ need m.geometry r q Segment
   pub takes : (v : View SessionState) (free : Area → ℕ) → TakesAtMost free v u → (area : Area) → free_in v.session area ≤ free area + pages_need 16 area
+  pub lies : (old new : VolumePages) (oid : Oid) → Shaped old new u oid → LineShaped m old new r (told oid)
   pub last : (oid : Oid) → (updated u oid (shown m)).last ≡ (shown m).last
   pub vacant : (oid : Oid) → oid.unique ≡ (shown m).next_unique → AllPairs LieApart (versions_of (updated u oid (shown m))) → All (λ (v : Version). SamePlace v (new_version oid) → ⊥) (versions_of (shown m))
 
@@ -177,3 +180,7 @@ line_made {a} {b} {c} {old} {mid} {new} r bind kind told made unique world is is
     let taken = it.makes.takes (with_groups before mid) (free_in done.mid) (done.kept (with_groups before mid) refl later it.u it.is it.asks) in
     let kept : KeptTo making_need mid done.mid = record { touched = (let most = charge_most made in let touched = done.touched in omega (arith, touched, most)); pages = taken Page; segs = taken Segment } in
     made_steps later (counted_then read is) (opened_then read is_open) r bind kind told it.u it.makes spelled untaken oid done.mid new (named ∙ sym it.number) done.noted kept (done.holds (with_groups before mid) refl later it.u it.is it.asks) done.bound went.only)
+    (λ before same now later.
+    let it = facts before same now later in
+    subst (λ (s : SessionState). LineShaped before.machine (pages_on b mid) (pages_on c s) r (told oid)) (sym done.bound)
+    (it.makes.lies (pages_on b mid) (pages_on c done.mid) oid (done.shaped (with_groups before mid) refl later it.u it.is it.asks)))

@@ -1,5 +1,5 @@
 -- How a line that opens a scan is answered.
-use Rattle.std.proofs.Common.{◌≡◌, ◌∙◌, ℕ, ◌+◌, ◌<◌, ◌≤◌, Bool, true, false, cond, not, List, [], ◌∷◌, length, Option, Some, None, is_some, Result, Ok, Err, IsTrue, refl, sym, ap, subst, arith, inl, inr}
+use Rattle.std.proofs.Common.{◌≡◌, ◌∙◌, ℕ, ◌+◌, ◌<◌, ◌≤◌, Bool, true, false, cond, not, List, [], ◌∷◌, ◌++◌, length, Option, Some, None, is_some, Result, Ok, Err, IsTrue, refl, sym, ap, subst, arith, inl, inr}
 use Rattle.std.specs.Prelude.{bytes_eq, is_none, nat_le, map, option_map, position}
 use Rattle.std.specs.List.{position_from}
 use Rattle.std.proofs.lemmas.Bool.{leb-false}
@@ -10,6 +10,7 @@ use Rattle.std.proofs.lemmas.Slice.Zip.{AllZip-long}
 use Rattle.disk_model.specs.Outside.{Outside}
 use Rattle.disk_model.specs.Runs.{reads_trans}
 use Rattle.ex_base.specs.declared.names.Oid.{Oid}
+use Rattle.ex_base.specs.declared.names.Root.{Root}
 use Rattle.open_scans.specs.GroupRows.{group_index, is_row_named}
 use Rattle.open_scans.specs.OpenScans.{scan_of}
 use Rattle.session_views.specs.declared.stop.Stop.{Stop}
@@ -32,7 +33,7 @@ use Rattle.volume_model.specs.Shown.{ScanShown}
 use Rattle.session_core.specs.declared.session.objects.Named.{Named}
 use Rattle.session_core.specs.Finding.{IfShown, IsMissing, IsNamed, IsOutside, LineStops, NamesVersion}
 use Rattle.session_core.specs.Meant.{held_view, meant, pick_of}
-use Rattle.session_core.specs.Opening.{IfTold, OpensScan, ShowsThen, with_scan}
+use Rattle.session_core.specs.Opening.{IfTold, OpensScan, ShowsThen, first_row, with_scan}
 use Rattle.session_core.specs.ScanRows.{takes_name}
 use Rattle.session_core.specs.Sessions.{IsSession, SessionState}
 use Rattle.session_core.specs.Steps.{OnlyFrames}
@@ -41,7 +42,7 @@ use Rattle.session_core.proofs.Naming.{frames_twice}
 use Rattle.session_core.proofs.Quiet.{same_view, with_groups}
 use Rattle.session_core.proofs.Taken.{group_as, taken_as}
 use Rattle.transactions.specs.Lines.{ScansLine}
-use Rattle.transactions.specs.Scanning.{MayOpen, group_asked, scan_refusal}
+use Rattle.transactions.specs.Scanning.{MayOpen, OpensThrough, group_asked, scan_refusal}
 use Rattle.transactions.proofs.Changed.{names_then}
 use Rattle.transactions.proofs.Naming.{named_first, the_size_named, the_version}
 use Rattle.transactions.proofs.ScanLines.{scans_refused, scans_stopped}
@@ -217,3 +218,14 @@ pub may_few : {s : SessionState} {told : Result Named Refusal} {name : List ℕ}
 may_few {s} {told} {name} {group} {version} {index} may =
     leb-false scans_most (length s.scans)
     (last_none (takes_name s name) (is_none (group_asked s.group_rows group)) (nat_le scans_most (length s.scans)) (subst (λ (t : Result Named Refusal). scan_refusal s t name group ≡ None) may.found may.none))
+
+-- ---- the group that it reads through
+
+pub opened_through : {a m b : Outside} {old mid new : SessionState} {told : Result Named Refusal} {root : Option Root} {version : Named} {index : ℕ}
+    (name : List ℕ) (group : Option (List ℕ)) → OnlyFrames a m old mid → OpensScan m b mid new name root index → MayOpen mid told name group version index → OpensThrough old new.scans name group
+opened_through {old = old} {root = root} {index = index} name group only opened may = record {
+  row = first_row name root opened.0 index;
+  rows = ap (λ (s : SessionState). s.scans) opened.1.same ∙ ap (λ (s : SessionState). s.scans ++ first_row name root opened.0 index ∷ []) only.same;
+  name_is = refl;
+  through = ap (λ (s : SessionState). group_asked s.group_rows group) (sym only.same) ∙ may.asked;
+}

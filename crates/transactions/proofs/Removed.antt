@@ -54,6 +54,8 @@ use Rattle.transactions.proofs.Changed.{names_then}
 use Rattle.transactions.proofs.EditRefusals.{joined, misses, names_frozen, names_live, opens, room_is, units_counted, update_counts}
 use Rattle.transactions.proofs.Naming.{the_oid_named, the_version}
 use Rattle.transactions.proofs.Updated.{KeptTo, charge_most, machine_with, noted_steps, own_names, pick_then, room_left, same_machine, same_session, within_need}
+use Rattle.session_core.specs.Contents.{VolumePages, pages_on}
+use Rattle.transactions.specs.Contents.{LineShaped}
 use Rattle.transactions.proofs.UpdateLines.{counted_then, line_refused, opened_then, update_done, update_stopped}
 
 -- from a frozen version of a table another one is derived
@@ -293,9 +295,9 @@ module _ {a b c : Outside} {old mid new : SessionState} (world : IsWorld a) (is 
   module _ (r : Request) (kind : NoteKind) (told : Oid → Reply) (how : ObjectUpdate) (u : TableUpdate) (is_u : IsUpdate how u)
       (asks : IfShown a old (λ before. (later : ShowsNow meant b (with_groups before mid)) → update.Asks u later.shows.working (shown before.machine))) where
     -- it is done: the note as the code comes to it
-    line_removed : IfShown a old (λ before. Takes before.machine r kind told u oid) → ((o : Oid) (why : Refusal) → told o ≡ reply.No why → ⊥) → (gone : Oid) (n : OpNote) → gone ≡ oid → n ≡ note kind oid 0 0
+    line_removed : IfShown a old (λ before. Takes before.machine r kind told u oid) → ((o : Oid) (why : Refusal) → told o ≡ reply.No why → ⊥) → ((m : Machine) (p q : VolumePages) (o : Oid) → LineShaped m p q r (told o)) → (gone : Oid) (n : OpNote) → gone ≡ oid → n ≡ note kind oid 0 0
         → Noted mid new (note_with n gone) → length new.meta.working ≤ length mid.meta.working + charge_of how → IfUpdated b mid how (TakesAtMost (free_in new)) → IfUpdated b mid how (λ before u. HoldsTable before c (volume_held new) new.gained new.lost (updated u gone (shown before.machine))) → UpdatesLine a c old new r (Ok (told gone))
-    line_removed takes never gone n named noting noted touched kept holds =
+    line_removed takes never none gone n named noting noted touched kept holds =
         let here : Noted mid new (note kind gone 0 0) = subst (λ (o : OpNote). Noted mid new (note_with o gone)) noting noted in
         let did : Noted mid new (note kind oid 0 0) = subst (λ (o : Oid). Noted mid new (note kind o 0 0)) named here in
         subst (λ (o : Oid). UpdatesLine a c old new r (Ok (told o))) (sym named)
@@ -305,7 +307,8 @@ module _ {a b c : Outside} {old mid new : SessionState} (world : IsWorld a) (is 
         let keeps : KeptTo removal_need mid new =
         record { touched = (let most = charge_most how in omega (arith, touched, most)); pages = (let pages = taken Page in omega (arith, pages)); segs = (let segs = taken Segment in omega (arith, segs)) } in
         removed_steps later (counted_then read is) (opened_then read is_open) r kind told u oid its new went.only did keeps
-        (subst (λ (o : Oid). HoldsTable (with_groups before mid) c (volume_held new) new.gained new.lost (updated u o (shown before.machine))) named (holds (with_groups before mid) refl later u is_u (asks before same now later)))))
+        (subst (λ (o : Oid). HoldsTable (with_groups before mid) c (volume_held new) new.gained new.lost (updated u o (shown before.machine))) named (holds (with_groups before mid) refl later u is_u (asks before same now later))))
+        (λ before same now later. none before.machine (pages_on b mid) (pages_on c new) oid))
 
     line_unremoved : ((v : View SessionState) → HasRoomFor v u) → (why : Stop) → LineStops b c why → IfUpdated b mid how (λ before u. HasRoomFor before u → IsOutside why) → UpdatesLine a c old new r (Err why)
     line_unremoved roomy why stops sound =
@@ -317,7 +320,7 @@ module _ {a b c : Outside} {old mid new : SessionState} (world : IsWorld a) (is 
         → IfUpdated b mid (made.Remove oid) (λ before u. HoldsTable before c (volume_held new) new.gained new.lost (updated u gone (shown before.machine))) → UpdatesLine a c old new (request.Destroy x) (Ok (reply.Destroy gone))
     destroyed =
         line_removed (request.Destroy x) note_kind.ObjectRemoved (λ oid. reply.Destroy oid) (made.Remove oid) (update.Removes oid) refl (λ before same now later. (may before same now).1)
-        (λ before same now. destroy_takes before.machine x oid (may before same now).0) (λ o why told. absurd (cc))
+        (λ before same now. destroy_takes before.machine x oid (may before same now).0) (λ o why told. absurd (cc)) (λ m p q o. tt)
 
     pub destroy_stopped : (why : Stop) → LineStops b c why → IfUpdated b mid (made.Remove oid) (λ before u. HasRoomFor before u → IsOutside why) → UpdatesLine a c old new (request.Destroy x) (Err why)
     destroy_stopped = line_unremoved (request.Destroy x) note_kind.ObjectRemoved (λ oid. reply.Destroy oid) (made.Remove oid) (update.Removes oid) refl (λ before same now later. (may before same now).1) (λ v. tt)
@@ -328,7 +331,7 @@ module _ {a b c : Outside} {old mid new : SessionState} (world : IsWorld a) (is 
         → IfUpdated b mid (made.Drop oid) (λ before u. HoldsTable before c (volume_held new) new.gained new.lost (updated u gone (shown before.machine))) → UpdatesLine a c old new (request.DropVersion x) (Ok (reply.DropVersion gone))
     dropped =
         line_removed (request.DropVersion x) note_kind.Dropped (λ oid. reply.DropVersion oid) (made.Drop oid) (update.Drops oid) refl (λ before same now later. (may before same now).1)
-        (λ before same now. drop_takes before.machine x oid (may before same now).0) (λ o why told. absurd (cc))
+        (λ before same now. drop_takes before.machine x oid (may before same now).0) (λ o why told. absurd (cc)) (λ m p q o. tt)
 
     pub drop_stopped : (why : Stop) → LineStops b c why → IfUpdated b mid (made.Drop oid) (λ before u. HasRoomFor before u → IsOutside why) → UpdatesLine a c old new (request.DropVersion x) (Err why)
     drop_stopped = line_unremoved (request.DropVersion x) note_kind.Dropped (λ oid. reply.DropVersion oid) (made.Drop oid) (update.Drops oid) refl (λ before same now later. (may before same now).1) (λ v. tt)

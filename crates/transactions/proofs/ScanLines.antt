@@ -2,9 +2,10 @@
 use Rattle.std.proofs.Common.{◌≡◌, ◌∙◌, ℕ, ◌<◌, ◌≤◌, Bool, true, false, List, [], ◌∷◌, length, Option, Some, None, Ok, Err, IsTrue, refl, sym, ap, subst}
 use Rattle.std.specs.Prelude.{is_none, nat_le, slice_get}
 use Rattle.std.proofs.lemmas.Bool.{le-leb, lt-leb}
+use Rattle.std.proofs.lemmas.Option.{same_Some}
 use Rattle.disk_model.specs.Outside.{Outside, ReadsOnly}
 use Rattle.disk_model.specs.Runs.{reads_refl}
-use Rattle.open_scans.specs.OpenScans.{scan_index}
+use Rattle.open_scans.specs.OpenScans.{AtRow, scan_index}
 use Rattle.session_views.specs.declared.stop.Stop.{Stop}
 use Rattle.session_views.specs.declared.stop.Stop.TheVariants as stop
 use Rattle.session_views.specs.View.{View, ShowsNow, Stepped}
@@ -32,6 +33,8 @@ use Rattle.session_core.proofs.OtherRows.{GivesNext, machine_grouped, machine_ne
 use Rattle.session_core.proofs.Quiet.{nothing_changed, now_after}
 use Rattle.session_core.proofs.Taken.{no_scan_as, scan_as, taken_as}
 use Rattle.transactions.specs.Lines.{ScansLine}
+use Rattle.transactions.specs.Scanning.{FillsItsGroup}
+use Rattle.volume_port.specs.Reading.{OthersStay}
 use Rattle.transactions.proofs.Naming.{refuses_so}
 
 -- ---- a refusal, and a stop
@@ -77,6 +80,12 @@ no_scan_told m name o is = ap (λ (x : Option ScanRow). first (when (is_none x) 
 pub next_refused : {a : Outside} {old : SessionState} (name : List ℕ) (len : ℕ) → IsSession old → scan_index old.scans name ≡ None → ScansLine a a old old (request.Next name len) (Ok (reply.No refusal.NoScan))
 next_refused {a} {old} name len is none = scans_refused (request.Next name len) refusal.NoScan (nothing_changed a old) is (λ before same now q.
     no_scan_told before.machine name None (no_scan_as before now.shows name (ap (λ (s : SessionState). scan_index s.scans name) same ∙ none)))
+
+-- the scan of a name is one, so it fills the group of that one
+pub fills_own : (old new : SessionState) (name : List ℕ) (index : ℕ) → scan_index old.scans name ≡ Some index
+    → AtRow old.scans index (λ row. OthersStay row.group old.groups new.groups) → FillsItsGroup old new.groups name
+fills_own old new name index at others other here row row_at =
+    others row (subst (λ (i : ℕ). slice_get old.scans i ≡ Some row) (same_Some other index (sym here ∙ at)) row_at)
 
 -- what `next_piece` left
 pub left_by : {a b : Outside} {old new : SessionState} → OnlyFrames a b (with_scans old new.scans) new → StoppedAt a b old new

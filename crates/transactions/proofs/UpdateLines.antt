@@ -17,6 +17,9 @@ use Rattle.session_views.specs.View.{View, ShowsNow, StandsDuring, Stepped}
 use Rattle.std.specs.Prelude.{is_some, true, false, IfErr, IfOk, Result}
 use Rattle.volume_model.specs.Shown.{Held}
 use Rattle.session_core.specs.Finding.{IfShown, IsOutside, LineStops}
+use Rattle.session_core.specs.Contents.{VolumePages, pages_on}
+use Rattle.transactions.specs.Contents.{LineShaped}
+use Rattle.transactions.proofs.Contents.{read_pages, refused_shaped}
 use Rattle.transactions.specs.Lines.{UpdatesLine, WentOn}
 use Rattle.session_core.specs.Meant.{meant, pick_of, held_view}
 use Rattle.session_core.specs.Sessions.{SessionState, IsSession}
@@ -58,6 +61,7 @@ module _ {a b : Outside} {old new : SessionState} (r : Request) (world : IsWorld
           step = refused before.machine r q why (reply.No why) before.machine (sym refuse) refl refl (subst (λ (o : Option Refusal). IfAccepted o (IsAllowed before.machine r q)) (sym refuse) tt);
         };
     any_moment = λ before same now. quiet_moments r world only.reads before now;
+    shaped = λ before same now. refused_shaped before.machine (pages_on a old) (pages_on b new) r why;
   }
 
   pub line_stopped : (why : Stop) → LineStops a b why → IfShown a old (λ before. IsOutside why) → UpdatesLine a b old new r (Err why)
@@ -72,6 +76,7 @@ module _ {a b : Outside} {old new : SessionState} (r : Request) (world : IsWorld
     refused = tt;
     stepped = tt;
     any_moment = λ before same now. quiet_moments r world only.reads before now;
+    shaped = tt;
   }
 
 -- no transaction is open
@@ -119,10 +124,12 @@ module _ {a b c : Outside} {old mid new : SessionState} (r : Request) (world : I
     refused = tt;
     stepped = tt;
     any_moment = moments;
+    shaped = tt;
   }
 
-  pub update_done : (told : Reply) → ((why : Refusal) → told ≡ reply.No why → ⊥) → IfShown a old (λ before. ShowsNow meant b (with_groups before mid) → Stepped meant (with_groups before mid) r told new c) → UpdatesLine a c old new r (Ok told)
-  update_done told accepts steps = record {
+  pub update_done : (told : Reply) → ((why : Refusal) → told ≡ reply.No why → ⊥) → IfShown a old (λ before. ShowsNow meant b (with_groups before mid) → Stepped meant (with_groups before mid) r told new c)
+      → IfShown a old (λ before. ShowsNow meant b (with_groups before mid) → LineShaped before.machine (pages_on b mid) (pages_on c new) r told) → UpdatesLine a c old new r (Ok told)
+  update_done told accepts steps lies = record {
     only = disk_trans read.reads.nothing.only went.only;
     writes = writes;
     geometry = went.geometry ∙ ap (λ (s : SessionState). s.geometry) read.same;
@@ -133,4 +140,6 @@ module _ {a b c : Outside} {old mid new : SessionState} (r : Request) (world : I
     refused = λ (why, is_no). absurd (accepts why is_no);
     stepped = λ before same now. stepped_back before r told same read (steps before same now (same_view before same now read is.sizes));
     any_moment = moments;
+    shaped = λ before same now.
+        subst (λ (p : VolumePages). LineShaped before.machine p (pages_on c new) r told) (read_pages read) (lies before same now (same_view before same now read is.sizes));
   }

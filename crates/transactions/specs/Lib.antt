@@ -1,4 +1,5 @@
 pub mod Refused
+pub mod Contents
 pub mod Lines
 pub mod Commands
 pub mod Editing
@@ -7,4 +8,5 @@ pub mod Scanning
 pub mod Making
 pub mod Copies
 pub mod Removing
+pub mod Ways
 pub mod Summaries

@@ -14,6 +14,7 @@ use Rattle.session_core.specs.Sessions.{SessionState}
 use Rattle.session_core.specs.Steps.{IsRefused, OnlyFrames}
 use Rattle.session_core.specs.Updates.{WritesUnused}
 use Rattle.session_core.specs.Finding.{IfShown, LineStops, IsOutside, oid_among}
+use Rattle.transactions.specs.Contents.{StepShaped}
 use Rattle.ex_base.specs.declared.names.Oid.{Oid}
 
 -- The machine refuses the line so, or accepts it, whatever the volume decides.
@@ -57,6 +58,7 @@ pub record UpdatesLine (a b : Outside) (old new : SessionState) (r : Request) (r
   pub refused : IfOk result (λ told. IsRefused told → OnlyFrames a b old new)
   pub stepped : IfOk result (λ told. IfShown a old (λ before. Stepped meant before r told new b))
   pub any_moment : (before : View SessionState) → before.session ≡ old → ShowsNow meant a before → Leaves a b (StandsDuring meant before.machine r)
+  pub shaped : StepShaped a b old new r result
 
 -- What an update leaves, however it ended: of the disk nothing was written but units that are not in use, so that a crash at any moment leaves the committed
 -- table; the log stays.

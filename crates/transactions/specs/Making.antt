@@ -16,6 +16,7 @@ use Rattle.session_core.specs.Performed.{NamesOid, charge_of}
 use Rattle.session_core.specs.ScanRows.{takes_name}
 use Rattle.session_core.specs.Sessions.{SessionState, volume_held}
 use Rattle.volume_edits.specs.TableUpdates.{updated}
+use Rattle.session_core.specs.Contents.{Shaped, pages_on}
 use Rattle.session_core.specs.Updates.{HoldsTable, IfUpdated, Noted, TakesAtMost}
 use Rattle.transactions.specs.declared.edits.Need.{Need}
 
@@ -44,4 +45,5 @@ pub record MakesVersion (a b : Outside) (old new : SessionState) (update : Objec
   pub touched : length mid.meta.working ≤ length old.meta.working + charge_of update
   pub kept : IfUpdated a old update (TakesAtMost (free_in mid))
   pub holds : IfUpdated a old update (λ before u. HoldsTable before b (volume_held mid) mid.gained mid.lost (updated u oid (shown before.machine)))
+  pub shaped : IfUpdated a old update (λ before u. Shaped (pages_on a old) (pages_on b mid) u oid)
   pub bound : new ≡ record mid { names = old.names ++ bound_if bind oid }

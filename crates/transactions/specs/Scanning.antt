@@ -1,14 +1,22 @@
--- Why no scan is opened of a version that a line names.
-use Rattle.std.specs.Prelude.{◌≡◌, ℕ, List, [], ◌∷◌, length, nat_le, is_none, true, Option, Some, None, Result, Ok, Err}
+-- Why no scan is opened of a version that a line names, and which groups scans read through.
+use Rattle.std.specs.Prelude.{⊤, ◌≡◌, ◌⊎◌, ℕ, List, [], ◌∷◌, ◌++◌, length, nat_le, is_none, true, IfOk, Option, Some, None, Result, Ok, Err}
+use Rattle.buffer_groups.specs.Frames.{Frames}
 use Rattle.open_scans.specs.GroupRows.{group_index}
+use Rattle.open_scans.specs.OpenScans.{AtRow, OpenRow, scan_index}
 use Rattle.session_core.specs.declared.session.objects.Named.{Named}
 use Rattle.session_core.specs.ScanRows.{takes_name}
 use Rattle.session_core.specs.Sessions.{SessionState}
+use Rattle.session_core.specs.Steps.{IsRefused}
+use Rattle.session_views.specs.declared.stop.Stop.{Stop}
 use Rattle.table_model.specs.declared.machine.GroupRow.{GroupRow}
 use Rattle.table_model.specs.declared.reply.Refusal.{Refusal}
 use Rattle.table_model.specs.declared.reply.Refusal.TheVariants as refusal
+use Rattle.table_model.specs.declared.reply.Reply.{Reply}
 use Rattle.table_model.specs.Machines.{scans_most}
 use Rattle.table_model.specs.Refusals.{first, when}
+use Rattle.table_model.specs.Requests.{Request}
+use Rattle.table_model.specs.Requests as request
+use Rattle.volume_port.specs.Reading.{OthersStay}
 
 -- the index of the group that a line names: without a name it is `main`
 abbrev pub group_asked : List GroupRow → Option (List ℕ) → Option ℕ
@@ -39,3 +47,22 @@ pub record MayOpen (s : SessionState) (told : Result Named Refusal) (name : List
   pub none : scan_refusal s told name group ≡ None
   pub found : told ≡ Ok version
   pub asked : group_asked s.group_rows group ≡ Some index
+
+-- ---- the groups that scans read through
+
+-- The scan that was opened is the last one, and reads through the group that the line names.
+pub record OpensThrough (old : SessionState) (scans : List OpenRow) (name : List ℕ) (group : Option (List ℕ)) : Type 0 where
+  pub row : OpenRow
+  pub rows : scans ≡ old.scans ++ row ∷ []
+  pub name_is : row.scan.name ≡ name
+  pub through : group_asked old.group_rows group ≡ Some row.group
+
+-- Of the groups none changed but the one that the scan of the name reads through.
+abbrev pub FillsItsGroup : SessionState → List Frames → List ℕ → Type 0
+FillsItsGroup old groups name = (index : ℕ) → scan_index old.scans name ≡ Some index → AtRow old.scans index (λ row. OthersStay row.group old.groups groups)
+
+-- A scan that is opened reads through the group that its line names, and what it gives next fills that group alone.
+abbrev pub ReadsThrough : SessionState → List OpenRow → List Frames → Request → Result Reply Stop → Type 0
+ReadsThrough old scans groups (request.Scan x name group) result = IfOk result (λ told. IsRefused told ⊎ OpensThrough old scans name group)
+ReadsThrough old scans groups (request.Next name len) result = FillsItsGroup old groups name
+ReadsThrough old scans groups r result = ⊤

@@ -31,7 +31,8 @@ fn change<H: Host>(
     requires asked { CountsItsBytes asked.now }
     ensures line { (r : Request) → AsksFor r (reference_of x.now) (asked_change asked.now)
         → UpdatesLine (H.outside host.old) (H.outside host.new) session.old session.new r result }
-    ensures damage { IfErr result (TellsDamage (H.outside host.old) (H.outside host.new)
+    ensures damage { IsTrue (H.outside host.old).honest
+        → IfErr result (TellsDamage (H.outside host.old) (H.outside host.new)
         session.old (named_as session.old (reference_of x.now))) }
 {
     let given = match admit(session, alloc, host, x, asked) {
@@ -66,7 +67,8 @@ pub(crate) fn insert<H: Host>(
     requires given { IsTrue (is_given (given_of given.now)) }
     ensures line { UpdatesLine (H.outside host.old) (H.outside host.new) session.old session.new
         (request.Insert (reference_of x.now) pos (given_of given.now)) result }
-    ensures damage { IfErr result (TellsDamage (H.outside host.old) (H.outside host.new)
+    ensures damage { IsTrue (H.outside host.old).honest
+        → IfErr result (TellsDamage (H.outside host.old) (H.outside host.new)
         session.old (named_as session.old (reference_of x.now))) }
 {
     if !session.is_open() {
@@ -93,7 +95,8 @@ pub(crate) fn append<H: Host>(
     requires given { IsTrue (is_given (given_of given.now)) }
     ensures line { UpdatesLine (H.outside host.old) (H.outside host.new) session.old session.new
         (request.Append (reference_of x.now) (given_of given.now)) result }
-    ensures damage { IfErr result (TellsDamage (H.outside host.old) (H.outside host.new)
+    ensures damage { IsTrue (H.outside host.old).honest
+        → IfErr result (TellsDamage (H.outside host.old) (H.outside host.new)
         session.old (named_as session.old (reference_of x.now))) }
 {
     if !session.is_open() {
@@ -120,7 +123,8 @@ pub(crate) fn replace<H: Host>(
     requires given { IsTrue (is_given (given_of given.now)) }
     ensures line { UpdatesLine (H.outside host.old) (H.outside host.new) session.old session.new
         (request.Replace (reference_of x.now) pos (given_of given.now)) result }
-    ensures damage { IfErr result (TellsDamage (H.outside host.old) (H.outside host.new)
+    ensures damage { IsTrue (H.outside host.old).honest
+        → IfErr result (TellsDamage (H.outside host.old) (H.outside host.new)
         session.old (named_as session.old (reference_of x.now))) }
 {
     if !session.is_open() {
@@ -147,7 +151,8 @@ pub(crate) fn delete<H: Host>(
     requires room { volume_bytes session.old.geometry ≤ (H.outside host.old).size }
     ensures line { UpdatesLine (H.outside host.old) (H.outside host.new) session.old session.new
         (request.Delete (reference_of x.now) pos len) result }
-    ensures damage { IfErr result (TellsDamage (H.outside host.old) (H.outside host.new)
+    ensures damage { IsTrue (H.outside host.old).honest
+        → IfErr result (TellsDamage (H.outside host.old) (H.outside host.new)
         session.old (named_as session.old (reference_of x.now))) }
 {
     if !session.is_open() {

@@ -8,7 +8,7 @@ ghost use Rattle.disk_model.specs.Changes.{ChangesWithin};
 ghost use Rattle.disk_model.specs.Outside.{DiskOnly, Leaves, ReadsOnly, Rose};
 ghost use Rattle.op_log.specs.Log.{SaysLog};
 ghost use Rattle.op_log.specs.declared.record.LogRecord.{LogRecord};
-ghost use Rattle.tree_store.specs.Stored.{Tells};
+ghost use Rattle.volume_port.specs.Reading.{TellsBytes};
 ghost use Rattle.volume_model.specs.Durable.{IsDurable};
 ghost use Rattle.table_model.specs.Requests.{request_of, is_request};
 ghost use Rattle.table_model.specs.Requests as request;
@@ -16,13 +16,16 @@ ghost use Rattle.session_views.specs.declared.stop.Stop.{Stop};
 ghost use Rattle.session_views.specs.View.{View, ShowsNow, Stepped, StandsDuring};
 ghost use Rattle.session_core.specs.Sessions.{FreesGivenBack, FreesTaken, IsSession, SessionState, TakesLogged};
 ghost use Rattle.session_core.specs.Catalogs.{IsDamaged, catalog_bytes};
-ghost use Rattle.session_core.specs.Commits.{JustReached, LogsCommit, committed_reach, working_reach};
+ghost use Rattle.session_core.specs.Commits.{JustReached, LogsCommit, WritesHome, committed_reach, working_reach};
 ghost use Rattle.session_core.specs.Counts.{free_in};
 ghost use Rattle.session_core.specs.Damage.{IsSessionDamage, TellsDamage};
 ghost use Rattle.session_core.specs.Meant.{meant};
 ghost use Rattle.session_core.specs.Steps.{IsRefused, OnlyFrames, IsQuiet};
 ghost use Rattle.session_core.specs.Updates.{WritesUnused};
-ghost use Rattle.transactions.specs.Commands.{Answers, IsCopy, IsOfCatalog, ReadsAlone, asks_objects, names_version};
+ghost use Rattle.transactions.specs.Commands.{Answers, IsCopy, IsHonestTo, IsOfCatalog, ReadsAlone, asks_objects, names_version};
+ghost use Rattle.transactions.specs.Ways.{IsSoundReply};
+ghost use Rattle.transactions.specs.Scanning.{ReadsThrough};
+ghost use Rattle.transactions.specs.Contents.{StepShaped};
 
 use crate::changes::{append, delete, insert, replace};
 use crate::copying::copy;
@@ -53,8 +56,14 @@ fn answer<H: Host>(
     requires form { IsTrue (is_request (request_of command.now)) }
     ensures answers { Answers (H.outside host.old) (H.outside host.new) session.old session.new
         (request_of command.now) result }
-    ensures damage { IfErr result (TellsDamage (H.outside host.old) (H.outside host.new)
+    ensures damage { IsHonestTo (request_of command.now) (H.outside host.old)
+        → IfErr result (TellsDamage (H.outside host.old) (H.outside host.new)
         session.old (names_version session.old (request_of command.now))) }
+    ensures way { ReadsAlone (request_of command.now) → IfOk result (λ told.
+        TellsBytes (H.outside host.old) session.old.groups
+        → IsSoundReply (H.outside host.old) session.old (request_of command.now) told) }
+    ensures writes { ¬ IsQuiet (request_of command.now) → WritesHome (H.outside host.old)
+        (H.outside host.new) session.old }
     ensures none_counts { request_of command.now ≡ request.Checkpoint
         → result ≡ Ok Reply.Checkpoint → session.new.log.count ≡ 0 }
     ensures logs { request_of command.now ≡ request.Commit → (before : View SessionState)
@@ -87,6 +96,10 @@ fn answer<H: Host>(
         → host.new ≡ host.old) }
     ensures shares { IsCopy (request_of command.now) → OnOk result
         (TakesLogged session.old.units session.new.units session.new.pages) }
+    ensures through { ReadsThrough session.old session.new.scans session.new.groups
+        (request_of command.now) result }
+    ensures shaped { StepShaped (H.outside host.old) (H.outside host.new) session.old session.new
+        (request_of command.now) result }
 {
     match command {
         Command::Begin => session.begin(alloc, host),
@@ -116,10 +129,18 @@ fn answer_objects<H: Host>(
     requires objects { asks_objects (request_of command.now) ≡ true }
     ensures answers { Answers (H.outside host.old) (H.outside host.new) session.old session.new
         (request_of command.now) result }
-    ensures damage { IfErr result (TellsDamage (H.outside host.old) (H.outside host.new)
+    ensures damage { IsHonestTo (request_of command.now) (H.outside host.old)
+        → IfErr result (TellsDamage (H.outside host.old) (H.outside host.new)
         session.old (names_version session.old (request_of command.now))) }
+    ensures way { ReadsAlone (request_of command.now) → IfOk result (λ told.
+        TellsBytes (H.outside host.old) session.old.groups
+        → IsSoundReply (H.outside host.old) session.old (request_of command.now) told) }
     ensures shares { IsCopy (request_of command.now) → OnOk result
         (TakesLogged session.old.units session.new.units session.new.pages) }
+    ensures through { ReadsThrough session.old session.new.scans session.new.groups
+        (request_of command.now) result }
+    ensures shaped { StepShaped (H.outside host.old) (H.outside host.new) session.old session.new
+        (request_of command.now) result }
 {
     match command {
         Command::List { name } => list(session, alloc, host, name),
@@ -159,13 +180,20 @@ pub fn step<H: Host>(
     ensures damaged { (page : PageNo) (want got : Seen)
         → result ≡ Err (Stop.Damaged page want got) → want ≢ got }
 
-    // What is told of a damaged page stands there: on an honest disk, whose bytes the frames lend, what is wanted of the page and what is got of it are told by a
-    // look at the session's volume, for the version that the command names, or on the way down from a root that the session holds.
+    // What is told of a damaged page stands there: on a disk that tells its bytes, which the frames lend, what is wanted of the page and what is got of it are
+    // told by a look at the session's volume, for the version that the command names, or on the way down from a root that the session holds. To a command that
+    // commits, changes objects or gives trees up it is so of an honest disk.
     ensures stands { (page : PageNo) (want got : Seen)
         → result ≡ Err (Stop.Damaged page want got)
-        → Tells (H.outside host.old) session.old.groups
+        → IsHonestTo (request_of command.now) (H.outside host.old)
+        → TellsBytes (H.outside host.old) session.old.groups
         → IsSessionDamage (H.outside host.old) (H.outside host.new) session.old
         (names_version session.old (request_of command.now)) page want got }
+
+    // A reply of a command that reads alone says that each page that it read on its way was what names it.
+    ensures way { ReadsAlone (request_of command.now) → IfOk result (λ told.
+        TellsBytes (H.outside host.old) session.old.groups
+        → IsSoundReply (H.outside host.old) session.old (request_of command.now) told) }
 
     // From a view that shows to a view that shows, by the machine's step.
     ensures stepped { (before : View SessionState) → before.session ≡ session.old
@@ -205,6 +233,10 @@ pub fn step<H: Host>(
         → (records : List LogRecord) → SaysLog session.old.geometry records before.disk
         → (later : List ℕ) × ((H.outside host.new).disk ≡ Some later)
         × SaysLog session.old.geometry records later }
+
+    // A commit and a checkpoint write in the log alone, and at the homes of the pages whose images were committed before, whatever is answered.
+    ensures writes_home { ¬ IsQuiet (request_of command.now) → WritesHome (H.outside host.old)
+        (H.outside host.new) session.old }
 
     // After an accepted checkpoint no record counts.
     ensures none_counts { request_of command.now ≡ request.Checkpoint
@@ -252,6 +284,15 @@ pub fn step<H: Host>(
     // A copy of a version shares its tree: each unit that comes into use is a logged page.
     ensures shares { IsCopy (request_of command.now) → OnOk result
         (TakesLogged session.old.units session.new.units session.new.pages) }
+
+    // A scan that is opened reads through the group that its line names, and what it gives next fills no other group.
+    ensures through { ReadsThrough session.old session.new.scans session.new.groups
+        (request_of command.now) result }
+
+    // An edited version is small after it exactly where its record fits its page, and its tree has the shape of its edit; a copy has its version's content,
+    // root and all; a new object is small.
+    ensures shaped { StepShaped (H.outside host.old) (H.outside host.new) session.old session.new
+        (request_of command.now) result }
 
     // To a command that asks of no objects and gives no tree up, only a catalog that is outside of its grammar is damaged.
     ensures catalog { IsOfCatalog (request_of command.now) → (page : PageNo) (want got : Seen)

@@ -157,7 +157,8 @@ pub(crate) fn copy<H: Host>(
     ensures line { UpdatesLine (H.outside host.old) (H.outside host.new) session.old session.new
         (copy_request copying (reference_of x.now)
         (option_map (λ name. name.now) bind.entry)) result }
-    ensures damage { IfErr result (TellsDamage (H.outside host.old) (H.outside host.new)
+    ensures damage { IsTrue (H.outside host.old).honest
+        → IfErr result (TellsDamage (H.outside host.old) (H.outside host.new)
         session.old (named_as session.old (reference_of x.now))) }
     ensures shares { OnOk result
         (TakesLogged session.old.units session.new.units session.new.pages) }

@@ -52,7 +52,8 @@ pub(crate) fn create<H: Host>(
     requires name { IsTrue (is_kept_name_if (option_map (λ name. name.now) bind)) }
     ensures line { UpdatesLine (H.outside host.old) (H.outside host.new) session.old session.new
         (request.Create file.now (option_map (λ name. name.now) bind.entry)) result }
-    ensures damage { IfErr result (TellsDamage (H.outside host.old) (H.outside host.new)
+    ensures damage { IsTrue (H.outside host.old).honest
+        → IfErr result (TellsDamage (H.outside host.old) (H.outside host.new)
         session.old no_version) }
 {
     if !session.is_open() {

@@ -1,5 +1,5 @@
 //! A version is made under the next unique number, and the name bound to it, where there is one.
-ghost use Rattle.std.specs.Prelude.{◌≡◌, ◌≤◌, ◌++◌, None, false, true, option_map, IfOk, IfErr, OnOk, OnErr};
+ghost use Rattle.std.specs.Prelude.{◌≡◌, ◌≤◌, ◌++◌, None, false, true, option_map, IfOk, IfErr, OnOk, OnErr, IsTrue};
 ghost use Rattle.ex_base.specs.Sizes.{volume_bytes};
 ghost use Rattle.ex_base.specs.declared.names.Area.TheVariants.{Page};
 ghost use Rattle.table_model.specs.Machines.{bound_if};
@@ -90,7 +90,8 @@ pub(crate) fn make<H: Host>(
     ensures shares { IsCopying update.now → OnOk result
         (TakesLogged session.old.units session.new.units session.new.pages) }
     ensures stops { IfErr result (LineStops (H.outside host.old) (H.outside host.new)) }
-    ensures damage { IfErr result (TellsDamage (H.outside host.old) (H.outside host.new)
+    ensures damage { IsTrue (H.outside host.old).honest
+        → IfErr result (TellsDamage (H.outside host.old) (H.outside host.new)
         session.old (asked_of update.now)) }
     ensures sound { IfErr result (λ why. IfUpdated (H.outside host.old) session.old update.now
         (λ before u. HasRoomFor before u → IsOutside why)) }

@@ -1,9 +1,12 @@
 //! An open scan gives its next bytes.
-ghost use Rattle.std.specs.Prelude.{◌≤◌, IsTrue, IfErr};
+ghost use Rattle.std.specs.Prelude.{◌≤◌, IsTrue, IfErr, IfOk};
 ghost use Rattle.ex_base.specs.Sizes.{volume_bytes};
 ghost use Rattle.table_model.specs.Requests.{is_request};
 ghost use Rattle.table_model.specs.Requests as request;
 ghost use Rattle.transactions.specs.Lines.{ScansLine};
+ghost use Rattle.transactions.specs.Ways.{IsSoundReply};
+ghost use Rattle.volume_port.specs.Reading.{TellsBytes};
+ghost use Rattle.transactions.specs.Scanning.{FillsItsGroup};
 ghost use Rattle.session_core.specs.Damage.{TellsDamage, no_version};
 
 use disk_model::Host;
@@ -25,6 +28,9 @@ pub(crate) fn next<H: Host>(
     requires form { IsTrue (is_request (request.Next name.now len)) }
     ensures line { ScansLine (H.outside host.old) (H.outside host.new) session.old session.new
         (request.Next name.now len) result }
+    ensures way { IfOk result (λ told. TellsBytes (H.outside host.old) session.old.groups
+        → IsSoundReply (H.outside host.old) session.old (request.Next name.now len) told) }
+    ensures others { FillsItsGroup session.old session.new.groups name.now }
     ensures damage { IfErr result (TellsDamage (H.outside host.old) (H.outside host.new)
         session.old no_version) }
 {

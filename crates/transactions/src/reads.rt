@@ -1,5 +1,5 @@
 //! What lines read of objects.
-ghost use Rattle.std.specs.Prelude.{◌≡◌, ◌≤◌, option_map, IfErr};
+ghost use Rattle.std.specs.Prelude.{◌≡◌, ◌≤◌, option_map, IfErr, IfOk};
 ghost use Rattle.ex_base.specs.Sizes.{volume_bytes};
 ghost use Rattle.object_files.specs.Edits.{IsCatalogPage};
 ghost use Rattle.object_files.specs.Reads.{catalog_on};
@@ -7,6 +7,8 @@ ghost use Rattle.table_model.specs.Requests.{reference_of};
 ghost use Rattle.table_model.specs.Requests as request;
 ghost use Rattle.transactions.specs.Lines.{ReadsLine, named_as};
 ghost use Rattle.transactions.specs.Refused.{entry_named};
+ghost use Rattle.transactions.specs.Ways.{IsSoundReply};
+ghost use Rattle.volume_port.specs.Reading.{TellsBytes};
 ghost use Rattle.session_core.specs.Damage.{TellsDamage, no_version};
 
 use crate::refuse::entry_named;
@@ -43,6 +45,8 @@ pub(crate) fn size<H: Host>(
     requires room { volume_bytes session.old.geometry ≤ (H.outside host.old).size }
     ensures line { ReadsLine (H.outside host.old) (H.outside host.new) session.old session.new
         (request.Size (reference_of x.now)) result }
+    ensures way { IfOk result (λ told. TellsBytes (H.outside host.old) session.old.groups
+        → IsSoundReply (H.outside host.old) session.old (request.Size (reference_of x.now)) told) }
     ensures damage { IfErr result (TellsDamage (H.outside host.old) (H.outside host.new)
         session.old (named_as session.old (reference_of x.now))) }
 {
@@ -67,6 +71,9 @@ pub(crate) fn read<H: Host>(
     requires room { volume_bytes session.old.geometry ≤ (H.outside host.old).size }
     ensures line { ReadsLine (H.outside host.old) (H.outside host.new) session.old session.new
         (request.Read (reference_of x.now) pos len) result }
+    ensures way { IfOk result (λ told. TellsBytes (H.outside host.old) session.old.groups
+        → IsSoundReply (H.outside host.old) session.old
+        (request.Read (reference_of x.now) pos len) told) }
     ensures damage { IfErr result (TellsDamage (H.outside host.old) (H.outside host.new)
         session.old (named_as session.old (reference_of x.now))) }
 {
@@ -100,6 +107,8 @@ pub(crate) fn list<H: Host>(
     requires room { volume_bytes session.old.geometry ≤ (H.outside host.old).size }
     ensures line { ReadsLine (H.outside host.old) (H.outside host.new) session.old session.new
         (request.ListFile name.now) result }
+    ensures way { IfOk result (λ told. TellsBytes (H.outside host.old) session.old.groups
+        → IsSoundReply (H.outside host.old) session.old (request.ListFile name.now) told) }
     ensures damage { IfErr result (TellsDamage (H.outside host.old) (H.outside host.new)
         session.old no_version) }
 {
@@ -129,6 +138,9 @@ pub(crate) fn versions<H: Host>(
     requires room { volume_bytes session.old.geometry ≤ (H.outside host.old).size }
     ensures line { ReadsLine (H.outside host.old) (H.outside host.new) session.old session.new
         (request.Versions (reference_of x.now)) result }
+    ensures way { IfOk result (λ told. TellsBytes (H.outside host.old) session.old.groups
+        → IsSoundReply (H.outside host.old) session.old
+        (request.Versions (reference_of x.now)) told) }
     ensures damage { IfErr result (TellsDamage (H.outside host.old) (H.outside host.new)
         session.old (named_as session.old (reference_of x.now))) }
 {
@@ -155,6 +167,8 @@ pub(crate) fn stat<H: Host>(
     requires room { volume_bytes session.old.geometry ≤ (H.outside host.old).size }
     ensures line { ReadsLine (H.outside host.old) (H.outside host.new) session.old session.new
         (request.Stat (reference_of x.now)) result }
+    ensures way { IfOk result (λ told. TellsBytes (H.outside host.old) session.old.groups
+        → IsSoundReply (H.outside host.old) session.old (request.Stat (reference_of x.now)) told) }
     ensures damage { IfErr result (TellsDamage (H.outside host.old) (H.outside host.new)
         session.old (named_as session.old (reference_of x.now))) }
 {
@@ -195,6 +209,9 @@ pub(crate) fn digest<H: Host>(
     requires room { volume_bytes session.old.geometry ≤ (H.outside host.old).size }
     ensures line { ReadsLine (H.outside host.old) (H.outside host.new) session.old session.new
         (request.Digest (reference_of x.now)) result }
+    ensures way { IfOk result (λ told. TellsBytes (H.outside host.old) session.old.groups
+        → IsSoundReply (H.outside host.old) session.old
+        (request.Digest (reference_of x.now)) told) }
     ensures damage { IfErr result (TellsDamage (H.outside host.old) (H.outside host.new)
         session.old (named_as session.old (reference_of x.now))) }
 {

@@ -1,5 +1,5 @@
 //! A version is removed: a current one is destroyed, or a frozen one dropped.
-ghost use Rattle.std.specs.Prelude.{◌≡◌, ◌≤◌, None, Some, true, IfOk, IfErr};
+ghost use Rattle.std.specs.Prelude.{◌≡◌, ◌≤◌, None, Some, true, IfOk, IfErr, IsTrue};
 ghost use Rattle.ex_base.specs.Sizes.{volume_bytes};
 ghost use Rattle.session_core.specs.Finding.{IfShown, IsOutside, LineStops, oid_among};
 ghost use Rattle.session_core.specs.Sessions.{IsSession};
@@ -149,7 +149,8 @@ pub(crate) fn destroy<H: Host>(
     requires room { volume_bytes session.old.geometry ≤ (H.outside host.old).size }
     ensures line { UpdatesLine (H.outside host.old) (H.outside host.new) session.old session.new
         (request.Destroy (reference_of x.now)) result }
-    ensures damage { IfErr result (TellsDamage (H.outside host.old) (H.outside host.new)
+    ensures damage { IsTrue (H.outside host.old).honest
+        → IfErr result (TellsDamage (H.outside host.old) (H.outside host.new)
         session.old (named_as session.old (reference_of x.now))) }
 {
     if !session.is_open() {
@@ -178,7 +179,8 @@ pub(crate) fn drop_version<H: Host>(
     requires room { volume_bytes session.old.geometry ≤ (H.outside host.old).size }
     ensures line { UpdatesLine (H.outside host.old) (H.outside host.new) session.old session.new
         (request.DropVersion (reference_of x.now)) result }
-    ensures damage { IfErr result (TellsDamage (H.outside host.old) (H.outside host.new)
+    ensures damage { IsTrue (H.outside host.old).honest
+        → IfErr result (TellsDamage (H.outside host.old) (H.outside host.new)
         session.old (named_as session.old (reference_of x.now))) }
 {
     if !session.is_open() {

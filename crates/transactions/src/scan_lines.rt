@@ -1,12 +1,15 @@
 //! Scans are opened, and closed.
-ghost use Rattle.std.specs.Prelude.{◌≡◌, ◌≤◌, Some, option_map, IsTrue, MatchResult, OnOk, IfErr};
+ghost use Rattle.std.specs.Prelude.{◌≡◌, ◌≤◌, Some, option_map, IsTrue, MatchResult, OnOk, IfErr, IfOk, ◌⊎◌};
 ghost use Rattle.ex_base.specs.Sizes.{volume_bytes};
 ghost use Rattle.ex_base.specs.declared.names.Area.TheVariants.{Page};
 ghost use Rattle.session_core.specs.Counts.{free_in};
 ghost use Rattle.table_model.specs.Requests.{is_request, reference_of};
 ghost use Rattle.table_model.specs.Requests as request;
 ghost use Rattle.transactions.specs.Lines.{ScansLine, named_as};
-ghost use Rattle.transactions.specs.Scanning.{MayOpen, group_asked, scan_refusal};
+ghost use Rattle.transactions.specs.Ways.{IsSoundReply};
+ghost use Rattle.volume_port.specs.Reading.{TellsBytes};
+ghost use Rattle.transactions.specs.Scanning.{MayOpen, group_asked, scan_refusal, OpensThrough};
+ghost use Rattle.session_core.specs.Steps.{IsRefused};
 ghost use Rattle.session_core.specs.Damage.{TellsDamage, no_version};
 
 use disk_model::Host;
@@ -76,6 +79,11 @@ pub(crate) fn scan<H: Host>(
         (option_map (λ g. g.now) group))) }
     ensures line { ScansLine (H.outside host.old) (H.outside host.new) session.old session.new
         (request.Scan (reference_of x.now) name.now (option_map (λ g. g.now) group.entry)) result }
+    ensures way { IfOk result (λ told. TellsBytes (H.outside host.old) session.old.groups
+        → IsSoundReply (H.outside host.old) session.old (request.Scan (reference_of x.now) name.now
+        (option_map (λ g. g.now) group.entry)) told) }
+    ensures through { IfOk result (λ told. IsRefused told ⊎ OpensThrough session.old
+        session.new.scans name.now (option_map (λ g. g.now) group.entry)) }
     ensures damage { IfErr result (TellsDamage (H.outside host.old) (H.outside host.new)
         session.old (named_as session.old (reference_of x.now))) }
 {
@@ -110,7 +118,8 @@ pub(crate) fn close<H: Host>(
     requires form { IsTrue (is_request (request.Close name.now)) }
     ensures line { ScansLine (H.outside host.old) (H.outside host.new) session.old session.new
         (request.Close name.now) result }
-    ensures damage { IfErr result (TellsDamage (H.outside host.old) (H.outside host.new)
+    ensures damage { IsTrue (H.outside host.old).honest
+        → IfErr result (TellsDamage (H.outside host.old) (H.outside host.new)
         session.old no_version) }
     ensures idle { OnOk result (free_in session.new Page ≡ free_in session.old Page
         → host.new ≡ host.old) }

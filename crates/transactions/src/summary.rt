@@ -5,7 +5,7 @@ ghost use Rattle.ex_base.specs.declared.names.PageNo.{PageNo};
 ghost use Rattle.disk_model.specs.Outside.{ReadsOnly, Rose};
 ghost use Rattle.session_views.specs.declared.stop.Stop.{Stop};
 ghost use Rattle.session_views.specs.View.{View, ShowsNow};
-ghost use Rattle.tree_store.specs.Stored.{Tells};
+ghost use Rattle.volume_port.specs.Reading.{TellsBytes};
 ghost use Rattle.session_core.specs.Sessions.{SessionState};
 ghost use Rattle.ex_base.specs.Sizes.{volume_bytes};
 ghost use Rattle.object_files.specs.Edits.{IsCatalogPage};
@@ -123,7 +123,7 @@ pub fn summarize<H: Host>(
     // What is told of a damaged page stands there, as after a step that names no version.
     ensures stands { (page : PageNo) (want got : Seen)
         → result ≡ Err (Stop.Damaged page want got)
-        → Tells (H.outside host.old) session.old.groups
+        → TellsBytes (H.outside host.old) session.old.groups
         → IsSessionDamage (H.outside host.old) (H.outside host.new) session.old no_version
         page want got }
 

@@ -10,6 +10,7 @@ use Rattle.transactions.proofs.UpdateLines.{line_stopped, admitted_with}
 use Rattle.transactions.proofs.Damage.{then_damage}
 use Rattle.session_core.specs.Finding.{oid_among}
 use Rattle.transactions.specs.declared.edits.Admitted.{Admitted}
+use Rattle.disk_model.specs.Runs.{honest_on}
 use Rattle.transactions.proofs.changes.change.Goals as goal
 
 pub returns-in-Ok-Err-clause-line : goal.returns-in-Ok-Err-clause-line
@@ -40,7 +41,7 @@ returns-in-Ok-update_objects-clause-line g c = λ r asked.
     changed_so x change (g.H.World.is_world c.args.host.now) c.admit.ensures.session c.requires.is_open c.admit.ensures.only r asked given
     (admitted_so x change given c.in-Ok-Ok.field-0 c.in-Ok-Ok.field-0-is c.in-Ok-Ok.ensures.admitted) (within_so c.args.session.now change given c.in-Ok-Ok.field-0 c.in-Ok-Ok.field-0-is c.in-Ok-Ok.ensures.limits)
     went c.with_bytes-edit.result (sym c.with_bytes-edit.ensures) c.in-Ok-update_objects.field-0 c.note_of-note.result c.size_after.result c.reply_of.result c.in-Ok-update_objects.ensures.named c.note_of-note.ensures c.size_after.ensures c.reply_of.ensures
-    c.in-Ok-update_objects.ensures.noted c.in-Ok-update_objects.ensures.touched c.in-Ok-update_objects.ensures.kept c.in-Ok-update_objects.ensures.holds
+    c.in-Ok-update_objects.ensures.noted c.in-Ok-update_objects.ensures.touched c.in-Ok-update_objects.ensures.kept c.in-Ok-update_objects.ensures.holds c.in-Ok-update_objects.ensures.shaped
 
 pub returns-clause-line : goal.returns-clause-line
 returns-clause-line g c = λ r asked.
@@ -54,9 +55,9 @@ returns-clause-line g c = λ r asked.
     went c.with_bytes-edit.result (sym c.with_bytes-edit.ensures) c.in-Err-update_objects.stop c.in-Err-update_objects.ensures.stops c.in-Err-update_objects.ensures.sound
 
 pub returns-clause-damage : goal.returns-clause-damage
-returns-clause-damage g c = then_damage (reference_of c.args.x.now) c.admit.ensures.only (g.H.World.outside c.update_objects.new.host) c.in-Err-update_objects.stop
+returns-clause-damage g c = λ honest. then_damage (reference_of c.args.x.now) c.admit.ensures.only (g.H.World.outside c.update_objects.new.host) c.in-Err-update_objects.stop
     (admitted_with (λ (given : Admitted). oid_among c.args.session.now.names (reference_of c.args.x.now) ≡ Some given.version.oid) c.in-Ok-Ok.given c.in-Ok-Ok.field-0 c.in-Ok-Ok.field-0-is c.in-Ok-Ok.ensures.asked)
-    c.in-Err-update_objects.ensures.damage
+    (c.in-Err-update_objects.ensures.damage (honest_on c.admit.ensures.only.reads.nothing.only.goes honest))
 
 pub size_after-requires-clause-size : goal.size_after-requires-clause-size
 size_after-requires-clause-size g c = (within_so c.args.session.now (asked_change c.args.asked.now) c.in-Ok-Ok.given c.in-Ok-Ok.field-0 c.in-Ok-Ok.field-0-is c.in-Ok-Ok.ensures.limits).size

@@ -1,8 +1,8 @@
-use Rattle.std.proofs.Common.{Ok, ap, subst, sym, true≢false}
+use Rattle.std.proofs.Common.{Ok, ap, refl, subst, sym, true≢false}
 use Rattle.table_model.specs.Requests.{request_of}
 use Rattle.table_model.specs.Requests as request
 use Rattle.table_model.specs.declared.reply.Reply.{Reply}
-use Rattle.session_core.specs.Steps.{StepsQuietly}
+use Rattle.session_core.specs.Steps.{StepsQuietly, is_quiet}
 use Rattle.transactions.proofs.Aborts.{is_abort}
 use Rattle.transactions.proofs.Accepted.{log_quietly, space_quietly}
 use Rattle.transactions.proofs.Commanding.{disk_alone, memory_alone, of_quiet, of_scans, of_step}
@@ -10,7 +10,11 @@ use Rattle.std.proofs.lemmas.Result.{IfErr-weaker}
 use Rattle.session_core.specs.Damage.{no_version}
 use Rattle.session_core.proofs.Damage.{catalog_told}
 use Rattle.transactions.specs.Commands.{names_version}
+use Rattle.transactions.proofs.QuietCommands.{quiet_but}
+use Rattle.transactions.proofs.Through.{of_no_scan}
 use Rattle.transactions.proofs.Damage.{damage_as, disk_damage, memory_damage}
+use Rattle.transactions.proofs.Ways.{nothing_read}
+use Rattle.transactions.proofs.Contents.{unshaped}
 use Rattle.transactions.proofs.commands.answer.Goals as goal
 
 pub returns-in-Begin-clause-answers : goal.returns-in-Begin-clause-answers
@@ -62,31 +66,31 @@ pub returns-in_default-clause-reached_back : goal.returns-in_default-clause-reac
 returns-in_default-clause-reached_back g c aborts before same now opened = absurd (c.in_default.not-Abort (is_abort c.args.command.now aborts))
 
 pub returns-in-Begin-clause-damage : goal.returns-in-Begin-clause-damage
-returns-in-Begin-clause-damage g c = damage_as (g.H.World.outside c.args.host.now) (g.H.World.outside c.begin.new.host) c.args.session.now (request_of c.args.command.now) request.Begin c.begin.result (ap request_of c.in-Begin.is) (IfErr-weaker c.begin.result _ _ (catalog_told (g.H.World.outside c.args.host.now) (g.H.World.outside c.begin.new.host) c.args.session.now no_version) c.begin.ensures.stops)
+returns-in-Begin-clause-damage g c = damage_as (g.H.World.outside c.args.host.now) (g.H.World.outside c.begin.new.host) c.args.session.now (request_of c.args.command.now) request.Begin c.begin.result (ap request_of c.in-Begin.is) (λ honest. IfErr-weaker c.begin.result _ _ (catalog_told (g.H.World.outside c.args.host.now) (g.H.World.outside c.begin.new.host) c.args.session.now no_version) c.begin.ensures.stops)
 
 pub returns-in-Files-clause-damage : goal.returns-in-Files-clause-damage
-returns-in-Files-clause-damage g c = damage_as (g.H.World.outside c.args.host.now) (g.H.World.outside c.files.new.host) c.args.session.now (request_of c.args.command.now) request.Files c.files.result (ap request_of c.in-Files.is) (IfErr-weaker c.files.result _ _ (catalog_told (g.H.World.outside c.args.host.now) (g.H.World.outside c.files.new.host) c.args.session.now no_version) c.files.ensures.stops)
+returns-in-Files-clause-damage g c = damage_as (g.H.World.outside c.args.host.now) (g.H.World.outside c.files.new.host) c.args.session.now (request_of c.args.command.now) request.Files c.files.result (ap request_of c.in-Files.is) (λ honest. IfErr-weaker c.files.result _ _ (catalog_told (g.H.World.outside c.args.host.now) (g.H.World.outside c.files.new.host) c.args.session.now no_version) c.files.ensures.stops)
 
 pub returns-in-File-clause-damage : goal.returns-in-File-clause-damage
-returns-in-File-clause-damage g c = damage_as (g.H.World.outside c.args.host.now) (g.H.World.outside c.file.new.host) c.args.session.now (request_of c.args.command.now) (request.File c.in-File.name.now) c.file.result (ap request_of c.in-File.is) (IfErr-weaker c.file.result _ _ (catalog_told (g.H.World.outside c.args.host.now) (g.H.World.outside c.file.new.host) c.args.session.now no_version) c.file.ensures.stops)
+returns-in-File-clause-damage g c = damage_as (g.H.World.outside c.args.host.now) (g.H.World.outside c.file.new.host) c.args.session.now (request_of c.args.command.now) (request.File c.in-File.name.now) c.file.result (ap request_of c.in-File.is) (λ honest. IfErr-weaker c.file.result _ _ (catalog_told (g.H.World.outside c.args.host.now) (g.H.World.outside c.file.new.host) c.args.session.now no_version) c.file.ensures.stops)
 
 pub returns-in-Unfile-clause-damage : goal.returns-in-Unfile-clause-damage
-returns-in-Unfile-clause-damage g c = damage_as (g.H.World.outside c.args.host.now) (g.H.World.outside c.unfile.new.host) c.args.session.now (request_of c.args.command.now) (request.Unfile c.in-Unfile.name.now) c.unfile.result (ap request_of c.in-Unfile.is) (IfErr-weaker c.unfile.result _ _ (catalog_told (g.H.World.outside c.args.host.now) (g.H.World.outside c.unfile.new.host) c.args.session.now no_version) c.unfile.ensures.stops)
+returns-in-Unfile-clause-damage g c = damage_as (g.H.World.outside c.args.host.now) (g.H.World.outside c.unfile.new.host) c.args.session.now (request_of c.args.command.now) (request.Unfile c.in-Unfile.name.now) c.unfile.result (ap request_of c.in-Unfile.is) (λ honest. IfErr-weaker c.unfile.result _ _ (catalog_told (g.H.World.outside c.args.host.now) (g.H.World.outside c.unfile.new.host) c.args.session.now no_version) c.unfile.ensures.stops)
 
 pub returns-in-Commit-clause-damage : goal.returns-in-Commit-clause-damage
-returns-in-Commit-clause-damage g c = damage_as (g.H.World.outside c.args.host.now) (g.H.World.outside c.commit.new.host) c.args.session.now (request_of c.args.command.now) request.Commit c.commit.result (ap request_of c.in-Commit.is) c.commit.ensures.damage
+returns-in-Commit-clause-damage g c = damage_as (g.H.World.outside c.args.host.now) (g.H.World.outside c.commit.new.host) c.args.session.now (request_of c.args.command.now) request.Commit c.commit.result (ap request_of c.in-Commit.is) (λ honest. c.commit.ensures.damage (honest refl))
 
 pub returns-in-Abort-clause-damage : goal.returns-in-Abort-clause-damage
-returns-in-Abort-clause-damage g c = damage_as (g.H.World.outside c.args.host.now) (g.H.World.outside c.abort.new.host) c.args.session.now (request_of c.args.command.now) request.Abort c.abort.result (ap request_of c.in-Abort.is) c.abort.ensures.damage
+returns-in-Abort-clause-damage g c = damage_as (g.H.World.outside c.args.host.now) (g.H.World.outside c.abort.new.host) c.args.session.now (request_of c.args.command.now) request.Abort c.abort.result (ap request_of c.in-Abort.is) (λ honest. c.abort.ensures.damage (honest refl))
 
 pub returns-in-Close-clause-damage : goal.returns-in-Close-clause-damage
-returns-in-Close-clause-damage g c = damage_as (g.H.World.outside c.args.host.now) (g.H.World.outside c.close.new.host) c.args.session.now (request_of c.args.command.now) (request.Close c.in-Close.name.now) c.close.result (ap request_of c.in-Close.is) c.close.ensures.damage
+returns-in-Close-clause-damage g c = damage_as (g.H.World.outside c.args.host.now) (g.H.World.outside c.close.new.host) c.args.session.now (request_of c.args.command.now) (request.Close c.in-Close.name.now) c.close.result (ap request_of c.in-Close.is) (λ honest. c.close.ensures.damage (honest refl))
 
 pub returns-in-Checkpoint-clause-damage : goal.returns-in-Checkpoint-clause-damage
-returns-in-Checkpoint-clause-damage g c = IfErr-weaker c.checkpoint.result _ _ (disk_damage (g.H.World.outside c.args.host.now) (g.H.World.outside c.checkpoint.new.host) c.args.session.now (names_version c.args.session.now (request_of c.args.command.now))) c.checkpoint.ensures.disk_alone
+returns-in-Checkpoint-clause-damage g c = λ honest. IfErr-weaker c.checkpoint.result _ _ (disk_damage (g.H.World.outside c.args.host.now) (g.H.World.outside c.checkpoint.new.host) c.args.session.now (names_version c.args.session.now (request_of c.args.command.now))) c.checkpoint.ensures.disk_alone
 
 pub returns-in-Group-clause-damage : goal.returns-in-Group-clause-damage
-returns-in-Group-clause-damage g c = IfErr-weaker c.group.result _ _ (memory_damage (g.H.World.outside c.args.host.now) (g.H.World.outside c.args.host.now) c.args.session.now (names_version c.args.session.now (request_of c.args.command.now))) c.group.ensures.memory
+returns-in-Group-clause-damage g c = λ honest. IfErr-weaker c.group.result _ _ (memory_damage (g.H.World.outside c.args.host.now) (g.H.World.outside c.args.host.now) c.args.session.now (names_version c.args.session.now (request_of c.args.command.now))) c.group.ensures.memory
 
 pub returns-in-Space-clause-unwritten : goal.returns-in-Space-clause-unwritten
 returns-in-Space-clause-unwritten g c = λ is. absurd (cc (is, ap request_of c.in-Space.is))
@@ -315,3 +319,145 @@ returns-in-Checkpoint-clause-taken_back g c = λ is. absurd (cc (is, ap request_
 
 pub returns-in-File-clause-takes_none : goal.returns-in-File-clause-takes_none
 returns-in-File-clause-takes_none g c = λ is. absurd (cc (is, ap request_of c.in-File.is))
+
+pub returns-in-Begin-clause-way : goal.returns-in-Begin-clause-way
+returns-in-Begin-clause-way g c = λ alone. nothing_read (g.H.World.outside c.args.host.now) c.args.session.now (request_of c.args.command.now) request.Begin c.begin.result (ap request_of c.in-Begin.is) (λ oid none. none) (λ told. tt)
+
+pub returns-in-Commit-clause-way : goal.returns-in-Commit-clause-way
+returns-in-Commit-clause-way g c = λ alone. nothing_read (g.H.World.outside c.args.host.now) c.args.session.now (request_of c.args.command.now) request.Commit c.commit.result (ap request_of c.in-Commit.is) (λ oid none. none) (λ told. tt)
+
+pub returns-in-Abort-clause-way : goal.returns-in-Abort-clause-way
+returns-in-Abort-clause-way g c = λ alone. nothing_read (g.H.World.outside c.args.host.now) c.args.session.now (request_of c.args.command.now) request.Abort c.abort.result (ap request_of c.in-Abort.is) (λ oid none. none) (λ told. tt)
+
+pub returns-in-Checkpoint-clause-way : goal.returns-in-Checkpoint-clause-way
+returns-in-Checkpoint-clause-way g c = λ alone. nothing_read (g.H.World.outside c.args.host.now) c.args.session.now (request_of c.args.command.now) request.Checkpoint c.checkpoint.result (ap request_of c.in-Checkpoint.is) (λ oid none. none) (λ told. tt)
+
+pub returns-in-Log-clause-way : goal.returns-in-Log-clause-way
+returns-in-Log-clause-way g c = λ alone. nothing_read (g.H.World.outside c.args.host.now) c.args.session.now (request_of c.args.command.now) request.Log (Ok c.log.result) (ap request_of c.in-Log.is) (λ oid none. none) (λ told. tt)
+
+pub returns-in-Files-clause-way : goal.returns-in-Files-clause-way
+returns-in-Files-clause-way g c = λ alone. nothing_read (g.H.World.outside c.args.host.now) c.args.session.now (request_of c.args.command.now) request.Files c.files.result (ap request_of c.in-Files.is) (λ oid none. none) (λ told. tt)
+
+pub returns-in-Space-clause-way : goal.returns-in-Space-clause-way
+returns-in-Space-clause-way g c = λ alone. nothing_read (g.H.World.outside c.args.host.now) c.args.session.now (request_of c.args.command.now) request.Space (Ok c.space.result) (ap request_of c.in-Space.is) (λ oid none. none) (λ told. tt)
+
+pub returns-in-File-clause-way : goal.returns-in-File-clause-way
+returns-in-File-clause-way g c = λ alone. nothing_read (g.H.World.outside c.args.host.now) c.args.session.now (request_of c.args.command.now) (request.File c.in-File.name.now) c.file.result (ap request_of c.in-File.is) (λ oid none. none) (λ told. tt)
+
+pub returns-in-Unfile-clause-way : goal.returns-in-Unfile-clause-way
+returns-in-Unfile-clause-way g c = λ alone. nothing_read (g.H.World.outside c.args.host.now) c.args.session.now (request_of c.args.command.now) (request.Unfile c.in-Unfile.name.now) c.unfile.result (ap request_of c.in-Unfile.is) (λ oid none. none) (λ told. tt)
+
+pub returns-in-Group-clause-way : goal.returns-in-Group-clause-way
+returns-in-Group-clause-way g c = λ alone. nothing_read (g.H.World.outside c.args.host.now) c.args.session.now (request_of c.args.command.now) (request.Group c.in-Group.name.now c.in-Group.frames c.in-Group.mru) c.group.result (ap request_of c.in-Group.is) (λ oid none. none) (λ told. tt)
+
+pub returns-in-Close-clause-way : goal.returns-in-Close-clause-way
+returns-in-Close-clause-way g c = λ alone. nothing_read (g.H.World.outside c.args.host.now) c.args.session.now (request_of c.args.command.now) (request.Close c.in-Close.name.now) c.close.result (ap request_of c.in-Close.is) (λ oid none. none) (λ told. tt)
+
+-- ---- where a commit and a checkpoint write
+
+pub returns-in-Commit-clause-writes : goal.returns-in-Commit-clause-writes
+returns-in-Commit-clause-writes g c _ = c.commit.ensures.writes
+
+pub returns-in-Checkpoint-clause-writes : goal.returns-in-Checkpoint-clause-writes
+returns-in-Checkpoint-clause-writes g c _ = c.checkpoint.ensures.writes
+
+pub returns-in-Begin-clause-writes : goal.returns-in-Begin-clause-writes
+returns-in-Begin-clause-writes g c loud = absurd (loud (ap is_quiet (ap request_of c.in-Begin.is)))
+
+pub returns-in-Abort-clause-writes : goal.returns-in-Abort-clause-writes
+returns-in-Abort-clause-writes g c loud = absurd (loud (ap is_quiet (ap request_of c.in-Abort.is)))
+
+pub returns-in-Log-clause-writes : goal.returns-in-Log-clause-writes
+returns-in-Log-clause-writes g c loud = absurd (loud (ap is_quiet (ap request_of c.in-Log.is)))
+
+pub returns-in-Files-clause-writes : goal.returns-in-Files-clause-writes
+returns-in-Files-clause-writes g c loud = absurd (loud (ap is_quiet (ap request_of c.in-Files.is)))
+
+pub returns-in-Space-clause-writes : goal.returns-in-Space-clause-writes
+returns-in-Space-clause-writes g c loud = absurd (loud (ap is_quiet (ap request_of c.in-Space.is)))
+
+pub returns-in-File-clause-writes : goal.returns-in-File-clause-writes
+returns-in-File-clause-writes g c loud = absurd (loud (ap is_quiet (ap request_of c.in-File.is)))
+
+pub returns-in-Unfile-clause-writes : goal.returns-in-Unfile-clause-writes
+returns-in-Unfile-clause-writes g c loud = absurd (loud (ap is_quiet (ap request_of c.in-Unfile.is)))
+
+pub returns-in-Group-clause-writes : goal.returns-in-Group-clause-writes
+returns-in-Group-clause-writes g c loud = absurd (loud (ap is_quiet (ap request_of c.in-Group.is)))
+
+pub returns-in-Close-clause-writes : goal.returns-in-Close-clause-writes
+returns-in-Close-clause-writes g c loud = absurd (loud (ap is_quiet (ap request_of c.in-Close.is)))
+
+pub returns-in_default-clause-writes : goal.returns-in_default-clause-writes
+returns-in_default-clause-writes g c loud = absurd (loud (quiet_but c.args.command.now c.in_default.not-Commit c.in_default.not-Checkpoint))
+
+-- ---- which groups scans read through
+
+pub returns-in-Begin-clause-through : goal.returns-in-Begin-clause-through
+returns-in-Begin-clause-through g c = of_no_scan c.args.session.now _ _ _ (ap request_of c.in-Begin.is) tt
+
+pub returns-in-Commit-clause-through : goal.returns-in-Commit-clause-through
+returns-in-Commit-clause-through g c = of_no_scan c.args.session.now _ _ _ (ap request_of c.in-Commit.is) tt
+
+pub returns-in-Abort-clause-through : goal.returns-in-Abort-clause-through
+returns-in-Abort-clause-through g c = of_no_scan c.args.session.now _ _ _ (ap request_of c.in-Abort.is) tt
+
+pub returns-in-Checkpoint-clause-through : goal.returns-in-Checkpoint-clause-through
+returns-in-Checkpoint-clause-through g c = of_no_scan c.args.session.now _ _ _ (ap request_of c.in-Checkpoint.is) tt
+
+pub returns-in-Log-clause-through : goal.returns-in-Log-clause-through
+returns-in-Log-clause-through g c = of_no_scan c.args.session.now _ _ _ (ap request_of c.in-Log.is) tt
+
+pub returns-in-Files-clause-through : goal.returns-in-Files-clause-through
+returns-in-Files-clause-through g c = of_no_scan c.args.session.now _ _ _ (ap request_of c.in-Files.is) tt
+
+pub returns-in-Space-clause-through : goal.returns-in-Space-clause-through
+returns-in-Space-clause-through g c = of_no_scan c.args.session.now _ _ _ (ap request_of c.in-Space.is) tt
+
+pub returns-in-File-clause-through : goal.returns-in-File-clause-through
+returns-in-File-clause-through g c = of_no_scan c.args.session.now _ _ _ (ap request_of c.in-File.is) tt
+
+pub returns-in-Unfile-clause-through : goal.returns-in-Unfile-clause-through
+returns-in-Unfile-clause-through g c = of_no_scan c.args.session.now _ _ _ (ap request_of c.in-Unfile.is) tt
+
+pub returns-in-Group-clause-through : goal.returns-in-Group-clause-through
+returns-in-Group-clause-through g c = of_no_scan c.args.session.now _ _ _ (ap request_of c.in-Group.is) tt
+
+pub returns-in-Close-clause-through : goal.returns-in-Close-clause-through
+returns-in-Close-clause-through g c = of_no_scan c.args.session.now _ _ _ (ap request_of c.in-Close.is) tt
+
+pub returns-in_default-clause-through : goal.returns-in_default-clause-through
+returns-in_default-clause-through g c = c.answer_objects.ensures.through
+
+pub returns-in-Begin-clause-shaped : goal.returns-in-Begin-clause-shaped
+returns-in-Begin-clause-shaped g c = unshaped (g.H.World.outside c.args.host.now) (g.H.World.outside c.begin.new.host) c.args.session.now c.begin.new.self (request_of c.args.command.now) request.Begin c.begin.result (ap request_of c.in-Begin.is) (λ m p q told. tt)
+
+pub returns-in-Commit-clause-shaped : goal.returns-in-Commit-clause-shaped
+returns-in-Commit-clause-shaped g c = unshaped (g.H.World.outside c.args.host.now) (g.H.World.outside c.commit.new.host) c.args.session.now c.commit.new.self (request_of c.args.command.now) request.Commit c.commit.result (ap request_of c.in-Commit.is) (λ m p q told. tt)
+
+pub returns-in-Abort-clause-shaped : goal.returns-in-Abort-clause-shaped
+returns-in-Abort-clause-shaped g c = unshaped (g.H.World.outside c.args.host.now) (g.H.World.outside c.abort.new.host) c.args.session.now c.abort.new.self (request_of c.args.command.now) request.Abort c.abort.result (ap request_of c.in-Abort.is) (λ m p q told. tt)
+
+pub returns-in-Checkpoint-clause-shaped : goal.returns-in-Checkpoint-clause-shaped
+returns-in-Checkpoint-clause-shaped g c = unshaped (g.H.World.outside c.args.host.now) (g.H.World.outside c.checkpoint.new.host) c.args.session.now c.checkpoint.new.self (request_of c.args.command.now) request.Checkpoint c.checkpoint.result (ap request_of c.in-Checkpoint.is) (λ m p q told. tt)
+
+pub returns-in-Log-clause-shaped : goal.returns-in-Log-clause-shaped
+returns-in-Log-clause-shaped g c = unshaped (g.H.World.outside c.args.host.now) (g.H.World.outside c.args.host.now) c.args.session.now c.args.session.now (request_of c.args.command.now) request.Log (Ok c.log.result) (ap request_of c.in-Log.is) (λ m p q told. tt)
+
+pub returns-in-Files-clause-shaped : goal.returns-in-Files-clause-shaped
+returns-in-Files-clause-shaped g c = unshaped (g.H.World.outside c.args.host.now) (g.H.World.outside c.files.new.host) c.args.session.now c.files.new.session (request_of c.args.command.now) request.Files c.files.result (ap request_of c.in-Files.is) (λ m p q told. tt)
+
+pub returns-in-Space-clause-shaped : goal.returns-in-Space-clause-shaped
+returns-in-Space-clause-shaped g c = unshaped (g.H.World.outside c.args.host.now) (g.H.World.outside c.args.host.now) c.args.session.now c.args.session.now (request_of c.args.command.now) request.Space (Ok c.space.result) (ap request_of c.in-Space.is) (λ m p q told. tt)
+
+pub returns-in-File-clause-shaped : goal.returns-in-File-clause-shaped
+returns-in-File-clause-shaped g c = unshaped (g.H.World.outside c.args.host.now) (g.H.World.outside c.file.new.host) c.args.session.now c.file.new.session (request_of c.args.command.now) (request.File c.in-File.name.now) c.file.result (ap request_of c.in-File.is) (λ m p q told. tt)
+
+pub returns-in-Unfile-clause-shaped : goal.returns-in-Unfile-clause-shaped
+returns-in-Unfile-clause-shaped g c = unshaped (g.H.World.outside c.args.host.now) (g.H.World.outside c.unfile.new.host) c.args.session.now c.unfile.new.session (request_of c.args.command.now) (request.Unfile c.in-Unfile.name.now) c.unfile.result (ap request_of c.in-Unfile.is) (λ m p q told. tt)
+
+pub returns-in-Group-clause-shaped : goal.returns-in-Group-clause-shaped
+returns-in-Group-clause-shaped g c = unshaped (g.H.World.outside c.args.host.now) (g.H.World.outside c.args.host.now) c.args.session.now c.group.new.session (request_of c.args.command.now) (request.Group c.in-Group.name.now c.in-Group.frames c.in-Group.mru) c.group.result (ap request_of c.in-Group.is) (λ m p q told. tt)
+
+pub returns-in-Close-clause-shaped : goal.returns-in-Close-clause-shaped
+returns-in-Close-clause-shaped g c = unshaped (g.H.World.outside c.args.host.now) (g.H.World.outside c.close.new.host) c.args.session.now c.close.new.session (request_of c.args.command.now) (request.Close c.in-Close.name.now) c.close.result (ap request_of c.in-Close.is) (λ m p q told. tt)

@@ -1,12 +1,15 @@
 use Rattle.disk_model.specs.Runs.{disk_refl}
 use Rattle.session_core.proofs.Quiet.{nothing_changed}
 use Rattle.transactions.proofs.StoppedSteps.{stopped, not_answered, not_stopped, of_any_fault}
-use Rattle.std.proofs.Common.{◌∙◌, ap, sym}
+use Rattle.std.proofs.Common.{◌∙◌, ap, sym, subst}
 use Rattle.session_core.specs.Sessions.{SessionState}
 use Rattle.disk_model.specs.Changes.{changes_refl}
 use Rattle.volume_model.specs.Durable.{IsDurable}
 use Rattle.table_model.specs.Requests.{request_of}
+use Rattle.session_views.specs.declared.Stop.TheVariants as stop
 use Rattle.transactions.specs.Commands.{names_version}
+use Rattle.transactions.specs.Scanning.{ReadsThrough}
+use Rattle.transactions.proofs.Through.{none_through}
 use Rattle.transactions.proofs.Commanding.{is_sound, leaves_durable, leaves_records}
 use Rattle.transactions.proofs.Damage.{damage_at}
 use Rattle.transactions.proofs.commands.step.Goals as goal
@@ -38,12 +41,12 @@ pub returns-else-is_err-clause-records : goal.returns-else-is_err-clause-records
 returns-else-is_err-clause-records g c = λ quiet before from now records says. leaves_records (request_of c.args.command.now) c.answer-told.result c.is_down.ensures.session c.answer-told.ensures.answers quiet before from now records says
 
 pub returns-then-is_err-clause-stands : goal.returns-then-is_err-clause-stands
-returns-then-is_err-clause-stands g c = λ page want got is. damage_at (g.H.World.outside c.args.host.now) (g.H.World.outside c.answer-told.new.host) c.args.session.now
-    (names_version c.args.session.now (request_of c.args.command.now)) c.answer-told.result page want got c.answer-told.ensures.damage is
+returns-then-is_err-clause-stands g c = λ page want got is honest. damage_at (g.H.World.outside c.args.host.now) (g.H.World.outside c.answer-told.new.host) c.args.session.now
+    (names_version c.args.session.now (request_of c.args.command.now)) c.answer-told.result page want got (c.answer-told.ensures.damage honest) is
 
 pub returns-else-is_err-clause-stands : goal.returns-else-is_err-clause-stands
-returns-else-is_err-clause-stands g c = λ page want got is. damage_at (g.H.World.outside c.args.host.now) (g.H.World.outside c.answer-told.new.host) c.args.session.now
-    (names_version c.args.session.now (request_of c.args.command.now)) c.answer-told.result page want got c.answer-told.ensures.damage is
+returns-else-is_err-clause-stands g c = λ page want got is honest. damage_at (g.H.World.outside c.args.host.now) (g.H.World.outside c.answer-told.new.host) c.args.session.now
+    (names_version c.args.session.now (request_of c.args.command.now)) c.answer-told.result page want got (c.answer-told.ensures.damage honest) is
 
 pub returns-then-is_down-clause-unused : goal.returns-then-is_down-clause-unused
 returns-then-is_down-clause-unused g c = λ quiet. changes_refl _ (g.H.World.outside c.args.host.now)
@@ -95,3 +98,32 @@ returns-then-is_down-clause-reads g c = λ reads. (nothing_changed (g.H.World.ou
 
 pub returns-then-is_down-clause-only : goal.returns-then-is_down-clause-only
 returns-then-is_down-clause-only g c = disk_refl (g.H.World.outside c.args.host.now)
+
+pub returns-then-is_err-clause-way : goal.returns-then-is_err-clause-way
+returns-then-is_err-clause-way g c = c.answer-told.ensures.way
+
+pub returns-else-is_err-clause-way : goal.returns-else-is_err-clause-way
+returns-else-is_err-clause-way g c = c.answer-told.ensures.way
+
+pub returns-then-is_down-clause-writes_home : goal.returns-then-is_down-clause-writes_home
+returns-then-is_down-clause-writes_home g c _ = changes_refl _ (g.H.World.outside c.args.host.now)
+
+pub returns-then-is_err-clause-writes_home : goal.returns-then-is_err-clause-writes_home
+returns-then-is_err-clause-writes_home g c = c.answer-told.ensures.writes
+
+pub returns-else-is_err-clause-writes_home : goal.returns-else-is_err-clause-writes_home
+returns-else-is_err-clause-writes_home g c = c.answer-told.ensures.writes
+
+pub returns-then-is_down-clause-through : goal.returns-then-is_down-clause-through
+returns-then-is_down-clause-through g c = none_through c.args.session.now (request_of c.args.command.now) stop.Down
+
+pub returns-then-is_err-clause-through : goal.returns-then-is_err-clause-through
+returns-then-is_err-clause-through g c =
+    subst (λ (s : SessionState). ReadsThrough c.args.session.now s.scans s.groups (request_of c.args.command.now) c.answer-told.result)
+    (sym c.put_down.ensures) c.answer-told.ensures.through
+
+pub returns-else-is_err-clause-through : goal.returns-else-is_err-clause-through
+returns-else-is_err-clause-through g c = c.answer-told.ensures.through
+
+pub returns-then-is_err-clause-shaped : goal.returns-then-is_err-clause-shaped
+returns-then-is_err-clause-shaped g c = not_answered c.answer-told.result _ (sym c.if-is_err.ensures.value)

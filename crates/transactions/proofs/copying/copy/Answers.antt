@@ -17,6 +17,7 @@ use Rattle.transactions.proofs.Copied.{can_make, copy_closed, copy_done, copy_re
 use Rattle.transactions.proofs.UpdateLines.{admitted_with, line_closed, line_stopped, refused_with}
 use Rattle.transactions.proofs.Damage.{then_damage}
 use Rattle.transactions.specs.declared.copying.Original.{Original}
+use Rattle.disk_model.specs.Runs.{honest_on}
 use Rattle.transactions.proofs.copying.copy.Goals as goal
 
 pub returns-then-not-is_open-clause-line : goal.returns-then-not-is_open-clause-line
@@ -64,9 +65,9 @@ returns-in-Err-make-clause-line g c =
     c.make.ensures.went c.in-Err-make.stop c.in-Err-make.ensures.stops c.in-Err-make.ensures.sound
 
 pub returns-in-Err-make-clause-damage : goal.returns-in-Err-make-clause-damage
-returns-in-Err-make-clause-damage g c = then_damage (reference_of c.args.x.now) c.admit.ensures.only (g.H.World.outside c.make.new.host) c.in-Err-make.stop
+returns-in-Err-make-clause-damage g c = λ honest. then_damage (reference_of c.args.x.now) c.admit.ensures.only (g.H.World.outside c.make.new.host) c.in-Err-make.stop
     (admitted_with (λ (given : Original). oid_among c.args.session.now.names (reference_of c.args.x.now) ≡ Some given.oid) c.in-Ok-Ok.original c.in-Ok-Ok.field-0 c.in-Ok-Ok.field-0-is c.in-Ok-Ok.ensures.asked)
-    c.in-Err-make.ensures.damage
+    (c.in-Err-make.ensures.damage (honest_on c.admit.ensures.only.reads.nothing.only.goes honest))
 
 pub make-requires-clause-unbound : goal.make-requires-clause-unbound
 make-requires-clause-unbound g c =

@@ -16,6 +16,7 @@ use Rattle.session_core.proofs.Sessions.{viewed}
 use Rattle.transactions.proofs.UpdateLines.{line_closed, line_stopped}
 use Rattle.session_core.proofs.Damage.{catalog_told, later_damage}
 use Rattle.session_core.specs.Damage.{no_version}
+use Rattle.disk_model.specs.Runs.{honest_on}
 use Rattle.transactions.proofs.creation.create.Goals as goal
 
 pub returns-then-not-is_open-clause-line : goal.returns-then-not-is_open-clause-line
@@ -67,10 +68,11 @@ returns-clause-line g c =
     c.in-Err-make.stop c.in-Err-make.ensures.stops c.in-Err-make.ensures.sound
 
 pub returns-in-Err-clause-damage : goal.returns-in-Err-clause-damage
-returns-in-Err-clause-damage g c = catalog_told (g.H.World.outside c.args.host.now) (g.H.World.outside c.catalog.new.disk) c.args.session.now no_version c.in-Err.stop c.in-Err.ensures.stops
+returns-in-Err-clause-damage g c = λ honest. catalog_told (g.H.World.outside c.args.host.now) (g.H.World.outside c.catalog.new.disk) c.args.session.now no_version c.in-Err.stop c.in-Err.ensures.stops
 
 pub returns-clause-damage : goal.returns-clause-damage
-returns-clause-damage g c = later_damage c.args.session.now c.catalog.new.self c.catalog.ensures.frames (g.H.World.outside c.make.new.host) no_version c.in-Err-make.stop c.in-Err-make.ensures.damage
+returns-clause-damage g c = λ honest. later_damage c.args.session.now c.catalog.new.self c.catalog.ensures.frames (g.H.World.outside c.make.new.host) no_version c.in-Err-make.stop
+    (c.in-Err-make.ensures.damage (honest_on c.catalog.ensures.frames.reads.nothing.only.goes honest))
 
 pub make-requires-clause-unbound : goal.make-requires-clause-unbound
 make-requires-clause-unbound g c = unbound_then (option_map (λ name. name.now) c.args.bind) c.catalog.ensures.frames (sym c.is_taken.ensures ∙ c.if-is_taken.false)

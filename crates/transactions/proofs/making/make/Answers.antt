@@ -26,6 +26,7 @@ returns-in-Ok-bind_if-clause-made g c =
       touched = c.in-Ok.ensures.touched;
       kept = c.in-Ok.ensures.kept;
       holds = c.in-Ok.ensures.holds;
+      shaped = c.in-Ok.ensures.shaped;
       bound = bound_then (option_map (λ name. name.now) c.args.bind) oid did c.in-Ok-bind_if.ensures.ok;
     }
 

@@ -5,6 +5,12 @@ use Rattle.transactions.proofs.Naming.{misses_so, names_so}
 use Rattle.session_core.proofs.Damage.{none_wider}
 use Rattle.transactions.specs.Lines.{named_as}
 use Rattle.transactions.proofs.Damage.{oid_named, then_damage}
+use Rattle.std.proofs.Common.{◌<◌, subst}
+use Rattle.versions.specs.Damage.{IsFoundAnd, IsReadThrough}
+use Rattle.session_core.specs.Damage.{image_on, units_on}
+use Rattle.session_core.specs.Ways.{IsLookBy}
+use Rattle.session_core.proofs.Ways.{later_way}
+use Rattle.transactions.proofs.Ways.{read_so, read_whole}
 use Rattle.transactions.proofs.reads.digest.Goals as goal
 
 pub returns-in-Ok-Err-clause-line : goal.returns-in-Ok-Err-clause-line
@@ -36,3 +42,20 @@ returns-clause-damage g c = then_damage (reference_of c.args.x.now) c.named.ensu
 
 pub digest_bytes-requires-clause-room : goal.digest_bytes-requires-clause-room
 digest_bytes-requires-clause-room g c = has_room c.named.ensures.only c.requires.room
+
+pub returns-in-Ok-digest_bytes-clause-way : goal.returns-in-Ok-digest_bytes-clause-way
+returns-in-Ok-digest_bytes-clause-way g c = λ tells.
+    let s = c.args.session.now in
+    let a = g.H.World.outside c.args.host.now in
+    let version = c.in-Ok-Ok.version in
+    let size = version.found.size in
+    let read = later_way c.named.ensures.only (λ geometry image units. 0 < size → IsFoundAnd geometry image version.oid (IsReadThrough geometry units 0 size)) c.in-Ok-digest_bytes.ensures.way tells in
+    let look = subst (IsLookBy a s (reference_of c.args.x.now)) c.in-Ok-Ok.field-0-is (c.in-Ok-Ok.ensures.way tells) in
+    record {
+      way = look.way;
+      read = read_so a s (reference_of c.args.x.now) version (oid_named c.args.session.now (reference_of c.args.x.now) c.in-Ok-Ok.version c.in-Ok-Ok.field-0 c.in-Ok-Ok.field-0-is c.in-Ok-Ok.ensures.asked) c.in-Ok-Ok.field-0 c.in-Ok-Ok.field-0-is (c.in-Ok-Ok.ensures.way tells)
+          (λ found. IsReadThrough s.geometry (units_on a s) 0 found.size found) (read_whole s.geometry (image_on a s) (units_on a s) version.oid version.found look.stands read);
+    }
+
+pub returns-in-Ok-Err-clause-way : goal.returns-in-Ok-Err-clause-way
+returns-in-Ok-Err-clause-way g c = λ tells. record { way = (c.in-Ok-Err.ensures.way tells).way; read = tt }

@@ -1,5 +1,5 @@
 use Rattle.transactions.proofs.LaterSessions.{has_room}
-use Rattle.std.proofs.Common.{◌∙◌, ℕ, List, ap}
+use Rattle.std.proofs.Common.{◌∙◌, ℕ, List, None, Some, ap}
 use Rattle.std.specs.Prelude.{option_map}
 use Rattle.object_files.specs.Catalog.{FileEntry}
 use Rattle.object_files.specs.Reads.{catalog_on}
@@ -7,6 +7,9 @@ use Rattle.transactions.specs.Refused.{entry_named}
 use Rattle.transactions.proofs.Listing.{list_line, list_refused, list_stopped, list_unread}
 use Rattle.session_core.proofs.Damage.{catalog_told, later_damage}
 use Rattle.session_core.specs.Damage.{no_version}
+use Rattle.versions.specs.Damage.{IsWalkedOut}
+use Rattle.session_core.proofs.Ways.{later_way}
+use Rattle.transactions.proofs.Ways.{list_way}
 use Rattle.transactions.proofs.reads.list.Goals as goal
 
 pub returns-in-Err-clause-line : goal.returns-in-Err-clause-line
@@ -37,3 +40,12 @@ returns-clause-damage g c = later_damage c.args.session.now c.catalog.new.self c
 
 pub objects_of-requires : goal.objects_of-requires
 objects_of-requires g c = record { room = has_room c.catalog.ensures.frames c.requires.room }
+
+pub returns-in-None-clause-way : goal.returns-in-None-clause-way
+returns-in-None-clause-way g c = list_way (g.H.World.outside c.args.host.now) c.args.session.now c.args.name.now c.in-Ok.page.items c.in-Ok.ensures.catalog c.in-Ok.ensures.read None
+    (c.in-None.ensures ∙ ap (λ (page : List ℕ). option_map (λ (e : FileEntry). e.file_no) (entry_named (catalog_on page) c.args.name.now)) c.deref.ensures.value) (λ tells. tt) _
+
+pub returns-in-Ok-objects_of-clause-way : goal.returns-in-Ok-objects_of-clause-way
+returns-in-Ok-objects_of-clause-way g c = list_way (g.H.World.outside c.args.host.now) c.args.session.now c.args.name.now c.in-Ok.page.items c.in-Ok.ensures.catalog c.in-Ok.ensures.read (Some c.in-Some.file_no)
+    (c.in-Some.ensures ∙ ap (λ (page : List ℕ). option_map (λ (e : FileEntry). e.file_no) (entry_named (catalog_on page) c.args.name.now)) c.deref.ensures.value)
+    (later_way c.catalog.ensures.frames (λ geometry image units. IsWalkedOut geometry image c.in-Some.file_no) c.in-Ok-objects_of.ensures.way) _

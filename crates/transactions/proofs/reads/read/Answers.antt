@@ -1,6 +1,6 @@
 use Rattle.transactions.proofs.LaterSessions.{has_room}
-use Rattle.std.proofs.Common.{◌≡◌, ◌∙◌, ◌≤◌, ◌+◌, ◌<◌, ℕ, length, ap, arith}
-use Rattle.std.specs.Prelude.{drop}
+use Rattle.std.proofs.Common.{◌≡◌, ◌∙◌, ◌≤◌, ◌+◌, ◌<◌, ℕ, length, ap, arith, subst}
+use Rattle.std.specs.Prelude.{IfSome, drop}
 use Rattle.ex_base.specs.Bytes.{bytes_at}
 use Rattle.table_model.specs.Requests.{reference_of}
 use Rattle.transactions.proofs.Naming.{misses_so, names_so, read_line, read_outside, read_refused, read_stopped, taken_back}
@@ -8,6 +8,10 @@ use Rattle.transactions.proofs.reads.read.Goals as goal
 use Rattle.transactions.proofs.reads.read.Goals.{then-pos-size-via-then-pos-size, then-pos-size-via-else-pos-size+then-from-size}
 use Rattle.session_core.proofs.Damage.{none_wider}
 use Rattle.transactions.specs.Lines.{named_as}
+use Rattle.versions.specs.Damage.{HasSoundWay, IsReadThrough}
+use Rattle.session_core.specs.Damage.{units_on}
+use Rattle.session_core.proofs.Ways.{later_way}
+use Rattle.transactions.proofs.Ways.{read_so}
 use Rattle.transactions.proofs.Damage.{found_damage, oid_named, roots_at}
 
 pub returns-in-Ok-Err-clause-line : goal.returns-in-Ok-Err-clause-line
@@ -58,3 +62,23 @@ returns-in-Err-read_found-clause-damage g c =
 
 pub read_found-requires-clause-room : goal.read_found-requires-clause-room
 read_found-requires-clause-room g c = has_room c.named.ensures.only c.requires.room
+
+pub returns-then-pos-size-clause-way : goal.returns-then-pos-size-clause-way
+returns-then-pos-size-clause-way g c = λ tells. record { way = (c.in-Ok-Ok.ensures.way tells).way; read = tt }
+
+pub returns-in-Ok-read_found-clause-way : goal.returns-in-Ok-read_found-clause-way
+returns-in-Ok-read_found-clause-way g c = λ tells.
+    let s = c.args.session.now in
+    let a = g.H.World.outside c.args.host.now in
+    let version = c.in-Ok-Ok.version in
+    let inside : c.args.pos + c.args.len ≤ version.found.size = omega (arith, c.if-pos-size.false, c.from.ensures, c.if-from-size.false) in
+    let long : length c.deref_mut.result.now ≡ c.args.len = omega (arith, c.deref_mut.ensures.len, c.in-Ok.ensures.len, ap length c.deref_mut.ensures.value) in
+    let sound = later_way c.named.ensures.only (λ geometry image units. IfSome version.found.root (HasSoundWay geometry units c.args.pos (length c.deref_mut.result.now))) c.in-Ok-read_found.ensures.way tells in
+    record {
+      way = (c.in-Ok-Ok.ensures.way tells).way;
+      read = read_so a s (reference_of c.args.x.now) version (oid_named c.args.session.now (reference_of c.args.x.now) c.in-Ok-Ok.version c.in-Ok-Ok.field-0 c.in-Ok-Ok.field-0-is c.in-Ok-Ok.ensures.asked) c.in-Ok-Ok.field-0 c.in-Ok-Ok.field-0-is (c.in-Ok-Ok.ensures.way tells)
+          (IsReadThrough s.geometry (units_on a s) c.args.pos c.args.len) (inside, subst (λ (n : ℕ). IfSome version.found.root (HasSoundWay s.geometry (units_on a s) c.args.pos n)) long sound);
+    }
+
+pub returns-in-Ok-Err-clause-way : goal.returns-in-Ok-Err-clause-way
+returns-in-Ok-Err-clause-way g c = λ tells. record { way = (c.in-Ok-Err.ensures.way tells).way; read = tt }

@@ -1,12 +1,16 @@
 use Rattle.transactions.proofs.LaterSessions.{has_room}
-use Rattle.std.proofs.Common.{◌≡◌, ◌∙◌, ℕ, min, take, refl, ap}
+use Rattle.std.proofs.Common.{◌≡◌, ◌∙◌, ℕ, None, min, take, refl, ap}
 use Rattle.table_model.specs.Requests.{reference_of}
 use Rattle.session_views.specs.declared.stop.Stop.TheVariants as stop
 use Rattle.transactions.proofs.Naming.{misses_so, names_so}
 use Rattle.transactions.proofs.Shaping.{stat_large, stat_refused, stat_small, stat_stopped}
 use Rattle.session_core.proofs.Damage.{none_wider, shape_damage}
 use Rattle.transactions.specs.Lines.{named_as}
-use Rattle.transactions.proofs.Damage.{rooted_at}
+use Rattle.transactions.proofs.Damage.{oid_named, rooted_at}
+use Rattle.session_core.specs.Ways.{IsSoundTree}
+use Rattle.session_core.proofs.Ways.{later_way}
+use Rattle.transactions.specs.Ways.{HasReadTree}
+use Rattle.transactions.proofs.Ways.{read_so}
 use Rattle.transactions.proofs.reads.stat.Goals as goal
 
 pub returns-in-Ok-Err-clause-line : goal.returns-in-Ok-Err-clause-line
@@ -50,3 +54,25 @@ returns-in-Err-shape-clause-damage g c =
 
 pub shape-requires-clause-room : goal.shape-requires-clause-room
 shape-requires-clause-room g c = has_room c.named.ensures.only c.requires.room
+
+pub returns-in_default-clause-way : goal.returns-in_default-clause-way
+returns-in_default-clause-way g c = λ tells. record {
+  way = (c.in-Ok-Ok.ensures.way tells).way;
+  read = read_so (g.H.World.outside c.args.host.now) c.args.session.now (reference_of c.args.x.now) c.in-Ok-Ok.version
+      (oid_named c.args.session.now (reference_of c.args.x.now) c.in-Ok-Ok.version c.in-Ok-Ok.field-0 c.in-Ok-Ok.field-0-is c.in-Ok-Ok.ensures.asked) c.in-Ok-Ok.field-0 c.in-Ok-Ok.field-0-is (c.in-Ok-Ok.ensures.way tells)
+      (λ found. (found.root ≡ None) × (found.size ≡ c.in-Ok-Ok.version.found.size)) (c.in_default.is, refl);
+}
+
+pub returns-in-Ok-from_slice-clause-way : goal.returns-in-Ok-from_slice-clause-way
+returns-in-Ok-from_slice-clause-way g c = λ tells.
+    let root = c.in-Some.root in
+    record {
+      way = (c.in-Ok-Ok.ensures.way tells).way;
+      read = read_so (g.H.World.outside c.args.host.now) c.args.session.now (reference_of c.args.x.now) c.in-Ok-Ok.version
+          (oid_named c.args.session.now (reference_of c.args.x.now) c.in-Ok-Ok.version c.in-Ok-Ok.field-0 c.in-Ok-Ok.field-0-is c.in-Ok-Ok.ensures.asked) c.in-Ok-Ok.field-0 c.in-Ok-Ok.field-0-is (c.in-Ok-Ok.ensures.way tells)
+          (HasReadTree (g.H.World.outside c.args.host.now) c.args.session.now root.size root.height)
+          (root, c.in-Some.is, refl, refl, later_way c.named.ensures.only (λ geometry image units. IsSoundTree geometry units root) c.in-Ok.ensures.way tells);
+    }
+
+pub returns-in-Ok-Err-clause-way : goal.returns-in-Ok-Err-clause-way
+returns-in-Ok-Err-clause-way g c = λ tells. record { way = (c.in-Ok-Err.ensures.way tells).way; read = tt }

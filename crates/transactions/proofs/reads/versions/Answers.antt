@@ -6,6 +6,11 @@ use Rattle.transactions.proofs.Relatives.{versions_line, versions_refused, versi
 use Rattle.session_core.proofs.Damage.{none_wider}
 use Rattle.transactions.specs.Lines.{named_as}
 use Rattle.transactions.proofs.Damage.{oid_named, then_damage}
+use Rattle.session_core.specs.Damage.{image_on}
+use Rattle.session_core.specs.Ways.{HasReadRelatives}
+use Rattle.session_core.specs.declared.session.relatives.Relation.TheVariants as relation
+use Rattle.session_core.proofs.Ways.{later_way}
+use Rattle.transactions.proofs.Ways.{relatives_so}
 use Rattle.transactions.proofs.reads.versions.Goals as goal
 
 pub returns-in-Ok-Err-clause-line : goal.returns-in-Ok-Err-clause-line
@@ -37,3 +42,15 @@ returns-in-Err-relatives-clause-damage g c = then_damage (reference_of c.args.x.
 
 pub relatives-requires : goal.relatives-requires
 relatives-requires g c = record { room = has_room c.named.ensures.only c.requires.room }
+
+pub returns-in-Ok-clause-way : goal.returns-in-Ok-clause-way
+returns-in-Ok-clause-way g c = λ tells. record {
+  way = (c.in-Ok-Ok.ensures.way tells).way;
+  read = relatives_so c.args.session.now (reference_of c.args.x.now) c.in-Ok-Ok.version.oid
+      (oid_named c.args.session.now (reference_of c.args.x.now) c.in-Ok-Ok.version c.in-Ok-Ok.field-0 c.in-Ok-Ok.field-0-is c.in-Ok-Ok.ensures.asked)
+      (λ oid. HasReadRelatives relation.Object c.args.session.now.geometry (image_on (g.H.World.outside c.args.host.now) c.args.session.now) oid)
+      (later_way c.named.ensures.only (λ geometry image units. HasReadRelatives relation.Object geometry image c.in-Ok-Ok.version.oid) c.in-Ok.ensures.way tells);
+}
+
+pub returns-in-Ok-Err-clause-way : goal.returns-in-Ok-Err-clause-way
+returns-in-Ok-Err-clause-way g c = λ tells. record { way = (c.in-Ok-Err.ensures.way tells).way; read = tt }

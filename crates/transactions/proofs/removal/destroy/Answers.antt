@@ -14,6 +14,7 @@ use Rattle.transactions.specs.Removing.{AcceptsOf, removal_need}
 use Rattle.transactions.proofs.Removed.{destroyed, destroy_stopped, line_kept, removal_left}
 use Rattle.transactions.proofs.UpdateLines.{admitted_with, line_closed, line_stopped, refused_with}
 use Rattle.transactions.proofs.Damage.{then_damage}
+use Rattle.disk_model.specs.Runs.{honest_on}
 use Rattle.transactions.proofs.removal.destroy.Goals as goal
 
 pub returns-then-not-is_open-clause-line : goal.returns-then-not-is_open-clause-line
@@ -53,9 +54,9 @@ returns-in-Err-update_objects-clause-line g c =
     c.in-Err-update_objects.stop c.in-Err-update_objects.ensures.stops c.in-Err-update_objects.ensures.sound
 
 pub returns-in-Err-update_objects-clause-damage : goal.returns-in-Err-update_objects-clause-damage
-returns-in-Err-update_objects-clause-damage g c = then_damage (reference_of c.args.x.now) c.admit_destroy.ensures.only (g.H.World.outside c.update_objects.new.host) c.in-Err-update_objects.stop
+returns-in-Err-update_objects-clause-damage g c = λ honest. then_damage (reference_of c.args.x.now) c.admit_destroy.ensures.only (g.H.World.outside c.update_objects.new.host) c.in-Err-update_objects.stop
     (admitted_with (λ oid. oid_among c.args.session.now.names (reference_of c.args.x.now) ≡ Some oid) c.in-Ok-Ok.oid c.in-Ok-Ok.field-0 c.in-Ok-Ok.field-0-is c.in-Ok-Ok.ensures.asked)
-    c.in-Err-update_objects.ensures.damage
+    (c.in-Err-update_objects.ensures.damage (honest_on c.admit_destroy.ensures.only.reads.nothing.only.goes honest))
 
 pub update_objects-requires-clause-room : goal.update_objects-requires-clause-room
 update_objects-requires-clause-room g c = has_room c.admit_destroy.ensures.only c.requires.room

@@ -1,16 +1,17 @@
 use Rattle.session_views.specs.declared.stop.Stop.TheVariants as stop
 use Rattle.transactions.proofs.LaterSessions.{scans_stop}
 use Rattle.transactions.proofs.LaterSessions.{has_room}
-use Rattle.std.proofs.Common.{List, ℕ, Ok, subst, sym}
+use Rattle.std.proofs.Common.{◌≡◌, List, ℕ, Ok, refl, subst, sym, inl, inr}
 use Rattle.std.specs.Prelude.{option_map}
 use Rattle.table_model.specs.Requests.{reference_of}
 use Rattle.table_model.specs.Requests as request
 use Rattle.table_model.specs.declared.reply.Reply.TheVariants as reply
 use Rattle.session_core.proofs.Naming.{later_stops}
 use Rattle.transactions.specs.Lines.{ScansLine, named_as}
-use Rattle.transactions.proofs.Opened.{may_few, may_group, scan_done, scan_refused, scan_sound, scan_stopped}
+use Rattle.transactions.proofs.Opened.{may_few, may_group, opened_through, scan_done, scan_refused, scan_sound, scan_stopped}
 use Rattle.session_core.proofs.Damage.{none_wider}
 use Rattle.transactions.proofs.Damage.{oid_named, then_damage}
+use Rattle.transactions.proofs.Ways.{read_so}
 use Rattle.transactions.proofs.scan_lines.scan.Goals as goal
 
 pub returns-in-Err-opening_of-clause-line : goal.returns-in-Err-opening_of-clause-line
@@ -59,3 +60,25 @@ returns-in_default-clause-line g c = scans_stop c.named.ensures.only _ stop.Memo
 
 pub returns-in-Err-clause-line : goal.returns-in-Err-clause-line
 returns-in-Err-clause-line g c = scans_stop c.named.ensures.only _ c.in-Err.stop c.in-Err.ensures.stops c.in-Err.ensures.sound
+
+pub returns-in-Ok-open_scan-clause-way : goal.returns-in-Ok-open_scan-clause-way
+returns-in-Ok-open_scan-clause-way g c = λ tells.
+    let s = c.args.session.now in
+    let x = reference_of c.args.x.now in
+    let version = c.in-Ok-opening_of.opening.version in
+    record {
+      way = (c.in-Ok.ensures.way tells).way;
+      read = read_so (g.H.World.outside c.args.host.now) s x version (oid_named s x version c.in-Ok.told c.in-Ok-opening_of.ensures.found c.in-Ok.ensures.asked) c.in-Ok.told c.in-Ok-opening_of.ensures.found (c.in-Ok.ensures.way tells)
+          (λ found. found.size ≡ version.found.size) refl;
+    }
+
+pub returns-in-Err-opening_of-clause-way : goal.returns-in-Err-opening_of-clause-way
+returns-in-Err-opening_of-clause-way g c = λ tells. record { way = (c.in-Ok.ensures.way tells).way; read = tt }
+
+pub returns-in-Err-opening_of-clause-through : goal.returns-in-Err-opening_of-clause-through
+returns-in-Err-opening_of-clause-through g c = inl (c.in-Err-opening_of.why, refl)
+
+pub returns-in-Ok-open_scan-clause-through : goal.returns-in-Ok-open_scan-clause-through
+returns-in-Ok-open_scan-clause-through g c =
+    let group = option_map (λ asked. asked.now) c.args.group in
+    inr (opened_through c.args.name.now group c.named.ensures.only c.in-Ok-open_scan.ensures.opened c.in-Ok-opening_of.ensures)
