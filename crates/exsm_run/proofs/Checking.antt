@@ -14,17 +14,19 @@ use Rattle.volume_model.specs.Parts.{StandsFor}
 use Rattle.command_line.specs.declared.status.Status.{Status}
 use Rattle.command_line.specs.declared.status.Status.TheVariants as status
 use Rattle.exsm_run.specs.Check.{CheckPromise, HoldsCounted, IsCount, IsLineStatus, StopsCount, check_line, counts_line}
-use Rattle.exsm_run.specs.Openings.{OpeningPromise}
+use Rattle.exsm_run.specs.Openings.{OpeningPromise, WritesAsOpening}
 use Rattle.exsm_run.specs.Script.{HoldsVolume}
 use Rattle.exsm_run.proofs.Ending.{starts_on}
 use Rattle.exsm_run.proofs.Lines.{leaves_sink, line_status, opened_well}
+use Rattle.exsm_run.proofs.Written.{keeps_sink, writes_on_opening}
 
 -- ---- no count was made
 
 pub check_stopped : {a b : Outside} (s : Status) → DiskOnly a b → StopsCount s a b
     → ((table : Table) (was : List ℕ) → HoldsVolume a table was → (s ≡ status.DiskFault) ⊎ (s ≡ status.Memory))
-    → ((image : List ℕ) → IsTrue a.honest → a.disk ≡ Some image → Leaves a b (StandsOpening meant a.images image)) → OpeningPromise a b s → CheckPromise a b s
-check_stopped {a} {b} s only stops kinds moments opening = record {
+    → ((image : List ℕ) → IsTrue a.honest → a.disk ≡ Some image → Leaves a b (StandsOpening meant a.images image)) → WritesAsOpening a b s → OpeningPromise a b s
+    → CheckPromise a b s
+check_stopped {a} {b} s only stops kinds moments writes opening = record {
   sends = λ table was on is. absurd (subst (λ (x : Status). StopsCount x a b) is stops);
   front = λ table was on is. absurd (subst (λ (x : Status). StopsCount x a b) is stops);
   nothing = λ done output. only.sent;
@@ -32,6 +34,7 @@ check_stopped {a} {b} s only stops kinds moments opening = record {
   settled = λ table was on is d here. absurd (subst (λ (x : Status). StopsCount x a b) is stops);
   moments = moments;
   moments_settled = λ table was volume. let starts = starts_on volume in leaves_table starts (moments starts.on.image starts.on.honest starts.on.holds);
+  writes = writes;
   sound = λ table was on. line_status s (kinds table was on);
   completes = λ may. ⊎_elim (λ disk. absurd (may.no_disk_fault (subst (λ (x : Status). StopsCount x a b) disk stops))) (λ memory. inr memory) (kinds may.table may.was may.on);
   opening = opening;
@@ -82,11 +85,11 @@ line_ends (status.NoPages need free) kind output disk = absurd kind
 
 pub check_sent : {a b c : Outside} (s : Status) (summary : Summary) (line : List ℕ) → IsWorld b → DiskOnly a b
     → ((table : Table) (was : List ℕ) → HoldsVolume a table was → IsCount b table summary)
-    → ((image : List ℕ) → IsTrue a.honest → a.disk ≡ Some image → Leaves a b (StandsOpening meant a.images image))
+    → ((image : List ℕ) → IsTrue a.honest → a.disk ≡ Some image → Leaves a b (StandsOpening meant a.images image)) → WritesAsOpening a b status.Done
     → ((image : List ℕ) → a.disk ≡ Some image → (table : Table) × StandsFor image table)
     → line ≡ counts_line summary.last summary.files summary.objects summary.versions summary.pages summary.segs
     → SentLine s b c line → CheckPromise a c s
-check_sent {a} {b} {c} s summary line world only counts moments opened made sent =
+check_sent {a} {b} {c} s summary line world only counts moments writes opened made sent =
     let along : (image : List ℕ) → IsTrue a.honest → a.disk ≡ Some image → Leaves a c (StandsOpening meant a.images image) =
     λ image honest holds. leaves_sink (StandsOpening meant a.images image) world (moments image honest holds) sent.only in
     record {
@@ -109,6 +112,7 @@ check_sent {a} {b} {c} s summary line world only counts moments opened made sent
       settled = λ table was on is d here. let count = counts table was on in count.images d (sent.only.images.back d here);
       moments = along;
       moments_settled = λ table was volume. let starts = starts_on volume in leaves_table starts (along starts.on.image starts.on.honest starts.on.holds);
+      writes = writes_on_opening s only.goes (keeps_sink world sent.only) writes;
       sound = λ table was on. sent.kind;
       completes = λ may. line_ends s sent.kind (λ output. may.no_output_fault (let rose = sent.output output in omega (arith, rose, only.goes.write_faults))) sent.no_disk;
       opening = opened_well s (λ part is. line_good s part sent.kind is) opened;

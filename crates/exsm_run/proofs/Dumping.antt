@@ -27,11 +27,12 @@ use Rattle.command_line.specs.declared.status.Status.{Status}
 use Rattle.command_line.specs.declared.status.Status.TheVariants as status
 use Rattle.exsm_run.specs.Check.{IsLineStatus, MaySend, StopsCount}
 use Rattle.exsm_run.specs.Dump.{DumpPromise, SendsFrontOfIt, SendsStream, failed_status}
-use Rattle.exsm_run.specs.Openings.{OpeningPromise, RestsWith}
+use Rattle.exsm_run.specs.Openings.{OpeningPromise, RestsWith, WritesAsOpening}
 use Rattle.exsm_run.specs.Script.{HoldsVolume}
 use Rattle.exsm_run.specs.Status.{IsRefusal}
 use Rattle.exsm_run.proofs.Ending.{starts_on}
 use Rattle.exsm_run.proofs.Lines.{line_status, opened_well}
+use Rattle.exsm_run.proofs.Written.{writes_on_opening}
 
 -- ---- an open volume
 
@@ -63,14 +64,16 @@ rests_stands {w} {table} at d here =
 
 pub dump_unopened : {a b : Outside} (s : Status) → DiskOnly a b → StopsCount s a b
     → ((table : Table) (was : List ℕ) → HoldsVolume a table was → (s ≡ status.DiskFault) ⊎ (s ≡ status.Memory))
-    → ((image : List ℕ) → IsTrue a.honest → a.disk ≡ Some image → Leaves a b (StandsOpening meant a.images image)) → OpeningPromise a b s → DumpPromise a b s
-dump_unopened {a} {b} s only stops kinds moments opening = record {
+    → ((image : List ℕ) → IsTrue a.honest → a.disk ≡ Some image → Leaves a b (StandsOpening meant a.images image)) → WritesAsOpening a b s → OpeningPromise a b s
+    → DumpPromise a b s
+dump_unopened {a} {b} s only stops kinds moments writes opening = record {
   sends = λ table was on is. absurd (subst (λ (x : Status). StopsCount x a b) is stops);
   front = λ table was on undone. inl (only.sent ∙ on.sent);
   left = only.left;
   settled = λ table was on is d here. absurd (subst (λ (x : Status). StopsCount x a b) is stops);
   moments = moments;
   moments_settled = λ table was volume. let starts = starts_on volume in leaves_table starts (moments starts.on.image starts.on.honest starts.on.holds);
+  writes = writes;
   sound = λ table was on. line_status s (kinds table was on);
   completes = λ may. ⊎_elim (λ disk. absurd (may.no_disk_fault (subst (λ (x : Status). StopsCount x a b) disk stops))) (λ memory. inr memory) (kinds may.table may.was may.on);
   opening = opening;
@@ -83,6 +86,7 @@ pub record Sending (a b c : Outside) (volume : VolumeState) : Type 0 where
   pub opening : DiskOnly a b
   pub rests : (table : Table) (was : List ℕ) → HoldsVolume a table was → RestsWith table b volume
   pub moments : (image : List ℕ) → IsTrue a.honest → a.disk ≡ Some image → Leaves a b (StandsOpening meant a.images image)
+  pub written : WritesAsOpening a b status.Done
   pub stood : (image : List ℕ) → a.disk ≡ Some image → (table : Table) × StandsFor image table
   pub reads : ReadsAndSends b c
 
@@ -92,6 +96,9 @@ along {a} {b} {c} sending image honest holds =
     let so_far = sending.moments image honest holds in
     leaves_trans (StandsOpening meant a.images image) so_far
     (leaves_wider b.images (StandsOpening meant a.images image) (sending.reads.moments (honest_on sending.opening.goes honest)) (λ d here. so_far.now d here))
+
+writes : {a b c : Outside} {volume : VolumeState} (s : Status) → Sending a b c volume → WritesAsOpening a c s
+writes s sending = writes_on_opening s sending.opening.goes (record { disk = sending.reads.disk; moments = sending.reads.moments }) sending.written
 
 settles : {a b c : Outside} {volume : VolumeState} → Sending a b c volume → (table : Table) (was : List ℕ) → HoldsVolume a table was → (d : List ℕ) → c.images d → StandsFor d table
 settles sending table was on d here =
@@ -112,6 +119,7 @@ dump_done {a} {b} {c} {volume} sending sent = record {
   settled = λ table was on is. settles sending table was on;
   moments = along sending;
   moments_settled = λ table was on. let starts = starts_on on in leaves_table starts (along sending starts.on.image starts.on.honest starts.on.holds);
+  writes = writes status.Done sending;
   sound = λ table was on. tt;
   completes = λ may. inl refl;
   opening = opened_well status.Done (λ part is. cc) sending.stood;
@@ -162,6 +170,7 @@ dump_failed {a} {b} {c} {volume} f sending sent cause sound =
       settled = λ table was on is. absurd (undone f is);
       moments = along sending;
       moments_settled = λ table was on. let starts = starts_on on in leaves_table starts (along sending starts.on.image starts.on.honest starts.on.holds);
+      writes = writes (failed_status f) sending;
       sound = λ table was on. good_fault f (good table was on);
       completes = λ may. ends_by f sending.opening sending.reads cause (good may.table may.was may.on) may.no_output_fault may.no_disk_fault;
       opening = opened_well (failed_status f) (opened_fault f) sending.stood;

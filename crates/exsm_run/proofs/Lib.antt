@@ -3,6 +3,7 @@ mod Idle
 mod Making
 mod Opened
 mod Lines
+mod Written
 mod Counting
 mod Checking
 mod Dumping

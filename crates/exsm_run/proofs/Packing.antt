@@ -4,7 +4,7 @@ use Rattle.ex_base.specs.declared.names.PageNo.{PageNo}
 use Rattle.ex_base.specs.declared.faults.Seen.{Seen}
 use Rattle.ex_base.specs.Sizes.{volume_bytes}
 use Rattle.disk_model.specs.Outside.{Outside, DiskOnly, IsWorld, Leaves, Rose}
-use Rattle.disk_model.specs.Runs.{disk_trans, leaves_trans, leaves_wider}
+use Rattle.disk_model.specs.Runs.{disk_trans, honest_on, leaves_trans, leaves_wider}
 use Rattle.table_model.specs.declared.table.Table.{Table}
 use Rattle.session_views.specs.declared.part.Part.{Part}
 use Rattle.session_views.specs.Opening.{StandsOpening}
@@ -17,7 +17,7 @@ use Rattle.volume_model.specs.Volume.{Decoded, table_of, units_of}
 use Rattle.volume_model.proofs.AtMostOne.{one_table}
 use Rattle.volume_port.specs.declared.state.VolumeState.{VolumeState}
 use Rattle.volume_port.specs.State.{IsAtRest}
-use Rattle.restart.specs.Opening.{AreOpened, HoldsAs, RestsAs, StandsForSame}
+use Rattle.restart.specs.Opening.{AreOpened, HoldsAs, PartsMoments, RestsAs, StandsForSame, StaysAs}
 use Rattle.restart.proofs.AtRest.{fresh_ready}
 use Rattle.packing.specs.Packing.{HoldsTableOf, IsPacked, LacksPages, StopsLacking}
 use Rattle.packing.specs.Resting.{IsIdle, PackCause, TellsDamage}
@@ -28,7 +28,7 @@ use Rattle.command_line.specs.declared.status.Status.{Status}
 use Rattle.command_line.specs.declared.status.Status.TheVariants as status
 use Rattle.exsm_run.specs.Check.{IsLineStatus, StopsCount}
 use Rattle.exsm_run.specs.Load.{HoldsTableNow}
-use Rattle.exsm_run.specs.Openings.{OpeningPromise}
+use Rattle.exsm_run.specs.Openings.{OpeningPromise, PartsAtSync}
 use Rattle.exsm_run.specs.Pack.{HoldsPacked, IsPackStatus, LacksAtEntry, MayPack, PackPromise, pack_line, unpacked_status}
 use Rattle.exsm_run.specs.Script.{HoldsVolume}
 use Rattle.exsm_run.specs.Status.{IsRefusal}
@@ -36,6 +36,7 @@ use Rattle.exsm_run.proofs.Checking.{SentLine, line_ends, line_good}
 use Rattle.exsm_run.proofs.Ending.{starts_on}
 use Rattle.exsm_run.proofs.Entries.{high_at_entry, lacks_at_entry, lacks_opened}
 use Rattle.exsm_run.proofs.Lines.{leaves_sink, opened_well}
+use Rattle.exsm_run.proofs.Written.{parted_leaves, parted_sink}
 
 -- ---- a volume that wasn't opened
 
@@ -55,8 +56,9 @@ holds_now b table was on held = (
 pub pack_unopened : {a b : Outside} (s : Status) → DiskOnly a b → StopsCount s a b
     → ((table : Table) (was : List ℕ) → HoldsVolume a table was → (s ≡ status.DiskFault) ⊎ (s ≡ status.Memory))
     → ((image : List ℕ) → IsTrue a.honest → a.disk ≡ Some image → HoldsAs image b)
-    → ((image : List ℕ) → IsTrue a.honest → a.disk ≡ Some image → Leaves a b (StandsOpening meant a.images image)) → OpeningPromise a b s → PackPromise a b s
-pack_unopened {a} {b} s only stops kinds holds moments opening = record {
+    → ((image : List ℕ) → IsTrue a.honest → a.disk ≡ Some image → Leaves a b (StandsOpening meant a.images image)) → PartsAtSync a b s → OpeningPromise a b s
+    → PackPromise a b s
+pack_unopened {a} {b} s only stops kinds holds moments parted opening = record {
   sends = λ table was on is. absurd (subst (λ (x : Status). StopsCount x a b) is stops);
   front = λ table was on is. absurd (subst (λ (x : Status). StopsCount x a b) is stops);
   nothing = λ done output. only.sent;
@@ -67,6 +69,7 @@ pack_unopened {a} {b} s only stops kinds holds moments opening = record {
   lacking = λ need free table was on lacks. inr (kinds table was on);
   moments = moments;
   moments_settled = λ table was on. let starts = starts_on on in leaves_table starts (moments starts.on.image starts.on.honest starts.on.holds);
+  parted = parted;
   sound = λ table was on. pack_status s (kinds table was on);
   completes = λ may. ⊎_elim (λ disk. absurd (may.may.no_disk_fault (subst (λ (x : Status). StopsCount x a b) disk stops))) (λ memory. inr memory) (kinds may.may.table may.may.was may.may.on);
   opening = opening;
@@ -83,6 +86,7 @@ pub record Packing (a b c : Outside) (volume : VolumeState) : Type 0 where
   pub opening : DiskOnly a b
   pub same : (image : List ℕ) → IsTrue a.honest → a.disk ≡ Some image → RestsAs image b volume
   pub moments : (image : List ℕ) → IsTrue a.honest → a.disk ≡ Some image → Leaves a b (StandsOpening meant a.images image)
+  pub parted : (image : List ℕ) → IsTrue a.honest → a.disk ≡ Some image → PartsMoments a b image
   pub stood : (image : List ℕ) → a.disk ≡ Some image → (table : Table) × StandsFor image table
   pub only : DiskOnly b c
   pub any_moment : (d : Decoded) (image : List ℕ) → IsAtRest b volume d image → Leaves b c (StandsForVolume d image)
@@ -93,17 +97,26 @@ module _ {a b c : Outside} {volume : VolumeState} (packing : Packing a b c volum
   packing_only = disk_trans packing.opening packing.only
 
   -- While it is packed a crash leaves what stands for the table at entry.
-  pub along : (image : List ℕ) → IsTrue a.honest → a.disk ≡ Some image → Leaves a c (StandsOpening meant a.images image)
-  along image honest holds =
+  stays : (image : List ℕ) → IsTrue a.honest → a.disk ≡ Some image → Leaves b c (StandsForSame image)
+  stays image honest holds =
       let at = packing.same image honest holds in
       let d = with_records at.decoded [] at.decoded.volume in
-      leaves_trans (StandsOpening meant a.images image) (packing.moments image honest holds)
-      (leaves_wider (StandsForVolume d at.disk) (StandsOpening meant a.images image) (packing.any_moment d at.disk at.rests)
-      (λ e stands. inr (inr (record {
+      leaves_wider (StandsForVolume d at.disk) (StandsForSame image) (packing.any_moment d at.disk at.rests)
+      (λ e stands. record {
         table = table_of (units_of d at.disk) d.volume;
         was = record { decoded = at.decoded; parts = at.parts; same = at.same.table };
         stands = stands;
-      }))))
+      })
+
+  pub along : (image : List ℕ) → IsTrue a.honest → a.disk ≡ Some image → Leaves a c (StandsOpening meant a.images image)
+  along image honest holds =
+      leaves_trans (StandsOpening meant a.images image) (packing.moments image honest holds)
+      (leaves_wider (StandsForSame image) (StandsOpening meant a.images image) (stays image honest holds)
+      (λ e (same : StandsForSame image e). inr (inr (record { table = same.table; was = same.was; stands = same.stands }))))
+
+  pub parts : (image : List ℕ) → IsTrue a.honest → a.disk ≡ Some image → PartsMoments a c image
+  parts image honest holds =
+      parted_leaves image (packing.parted image honest holds) (leaves_wider (StandsForSame image) (StaysAs image) (stays image honest holds) (λ e same. inr same))
 
   module _ (table : Table) (was : List ℕ) (on : HoldsVolume a table was) where
     abbrev here : RestsAs on.image b volume
@@ -208,6 +221,7 @@ module _ {a b c : Outside} {volume : VolumeState} (packing : Packing a b c volum
         stops_so f need free (fails.lacking (with_records at.decoded [] at.decoded.volume) at.disk need free at.rests (lacks_there packing table was on need free lacks));
     moments = along packing;
     moments_settled = λ table was on. let starts = starts_on on in leaves_table starts (along packing starts.on.image starts.on.honest starts.on.holds);
+    parted = λ good. parts packing;
     sound = λ table was on. good_fault f (good table was on);
     completes = ends;
     opening = opened_well (unpacked_status f) (well_opened f) packing.stood;
@@ -291,6 +305,7 @@ module _ {a b c e : Outside} {old new : VolumeState} {packed : Packed} (packing 
     lacking = λ need free table was on lacks. absurd (none_lacks table was on need free lacks);
     moments = along_line;
     moments_settled = λ table was on. let starts = starts_on on in leaves_table starts (along_line starts.on.image starts.on.honest starts.on.holds);
+    parted = λ good image honest holds. parted_sink image sends.world (honest_on (packing_only packing).goes honest) (parts packing image honest holds) sends.sent.only;
     sound = λ table was on. pack_kind s sends.sent.kind;
     completes = λ may. line_ends s sends.sent.kind (λ output. may.may.no_output_fault (omega (arith, sends.sent.output output, (packing_only packing).write_faults))) sends.sent.no_disk;
     opening = opened_well s (λ part is. line_good s part sends.sent.kind is) packing.stood;

@@ -11,7 +11,7 @@ use Rattle.history_dump.specs.declared.fault.DumpFault.TheVariants as fault
 use Rattle.command_line.specs.declared.status.Status.{Status}
 use Rattle.command_line.specs.declared.status.Status.TheVariants.{Done, OutputFault, DiskFault, Memory, Damaged}
 use Rattle.exsm_run.specs.Check.{IsLineStatus, MaySend}
-use Rattle.exsm_run.specs.Openings.{OpeningPromise}
+use Rattle.exsm_run.specs.Openings.{OpeningPromise, WritesAsOpening}
 use Rattle.exsm_run.specs.Script.{HoldsVolume, IsOnVolume}
 
 -- the status where a stream wasn't sent whole
@@ -41,6 +41,8 @@ pub record DumpPromise (before after : Outside) (status : Status) : Type 0 where
   -- A crash at any moment leaves what one in an opening may leave: where nothing is pending at entry, the table.
   pub moments : (image : List ℕ) → IsTrue before.honest → before.disk ≡ Some image → Leaves before after (StandsOpening meant before.images image)
   pub moments_settled : (table : Table) (was : List ℕ) → IsOnVolume before table was → Leaves before after (λ d. StandsFor d table)
+  -- It writes as an opening does: nothing where no record of the log counts.
+  pub writes : WritesAsOpening before after status
   -- On a volume nothing but a fault of the disk or of the output, or want of memory, stops it, and without those faults nothing but the latter.
   pub sound : (table : Table) (was : List ℕ) → HoldsVolume before table was → IsLineStatus status
   pub completes : MaySend before after → (status ≡ Done) ⊎ (status ≡ Memory)

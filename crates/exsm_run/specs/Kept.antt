@@ -8,7 +8,7 @@ use Rattle.disk_model.specs.Changes.{ChangesWithin}
 use Rattle.disk_model.specs.Outside.{Outside, ReadsOnly}
 use Rattle.op_log.specs.Log.{SaysLog}
 use Rattle.op_log.specs.declared.record.LogRecord.{LogRecord}
-use Rattle.tree_store.specs.Stored.{Tells}
+use Rattle.volume_port.specs.Reading.{TellsBytes}
 use Rattle.table_model.specs.declared.reply.Reply.{Reply}
 use Rattle.table_model.specs.declared.reply.Reply.TheVariants as reply
 use Rattle.table_model.specs.Requests.{Request, Abort, Checkpoint, Close, Commit}
@@ -18,17 +18,22 @@ use Rattle.session_views.specs.declared.Stop.TheVariants as stop
 use Rattle.session_views.specs.View.{View, ShowsNow}
 use Rattle.engines.specs.Keeping.{Conduct, conduct}
 use Rattle.session_core.specs.Catalogs.{IsDamaged, catalog_bytes}
-use Rattle.session_core.specs.Commits.{JustReached, LogsCommit, committed_reach, working_reach}
+use Rattle.session_core.specs.Commits.{JustReached, LogsCommit, WritesHome, committed_reach, working_reach}
 use Rattle.session_core.specs.Counts.{free_in}
 use Rattle.session_core.specs.Damage.{IsSessionDamage}
 use Rattle.session_core.specs.Meant.{meant}
 use Rattle.session_core.specs.Sessions.{FreesGivenBack, FreesTaken, SessionState, TakesLogged}
 use Rattle.session_core.specs.Steps.{IsQuiet, IsRefused, OnlyFrames}
 use Rattle.session_core.specs.Updates.{WritesUnused}
-use Rattle.transactions.specs.Commands.{IsCopy, IsOfCatalog, ReadsAlone, names_version}
+use Rattle.transactions.specs.Commands.{IsCopy, IsHonestTo, IsOfCatalog, ReadsAlone, names_version}
+use Rattle.transactions.specs.Ways.{IsSoundReply}
+use Rattle.transactions.specs.Scanning.{ReadsThrough}
+use Rattle.transactions.specs.Contents.{StepShaped}
 
 -- Where a commit, a checkpoint, an abort or a close was asked for.
 pub record EndKeeps (old new : SessionState) (a b : Outside) (r : Request) (result : Result Reply Stop) : Type 0 where
+  -- A commit and a checkpoint write in the log alone, and at the homes of the pages whose images were committed before.
+  pub writes : ¬ IsQuiet r → WritesHome a b old
   -- A checkpoint takes no memory, and after an accepted one no record counts.
   pub takes_none : r ≡ Checkpoint → result ≡ Err stop.Memory → ⊥
   pub none_counts : r ≡ Checkpoint → result ≡ Ok reply.Checkpoint → new.log.count ≡ 0
@@ -49,10 +54,11 @@ pub record EndKeeps (old new : SessionState) (a b : Outside) (r : Request) (resu
   pub idle : r ≡ Abort → OnOk result (free_in new Page ≡ free_in old Page → MakesCalls 0 a b)
   pub idle_close : (name : List ℕ) → r ≡ Close name → OnOk result (free_in new Page ≡ free_in old Page → MakesCalls 0 a b)
 
--- What is told of a damaged page, where the disk is honest and tells its bytes, and the frames lend those of their pages.
+-- What is told of a damaged page, where the disk tells its bytes, and the frames lend those of their pages.
 pub record DamageKept (old : SessionState) (a b : Outside) (r : Request) (result : Result Reply Stop) : Type 0 where
-  -- It is told by a look at the session's volume, for the version that the command names, or on the way down from a root that the session holds.
-  pub stands : (page : PageNo) (want got : Seen) → result ≡ Err (stop.Damaged page want got) → Tells a old.groups
+  -- It is told by a look at the session's volume, for the version that the command names, or on the way down from a root that the session holds. To a
+  -- command that commits, changes objects or gives trees up it is so of an honest disk.
+  pub stands : (page : PageNo) (want got : Seen) → result ≡ Err (stop.Damaged page want got) → IsHonestTo r a → TellsBytes a old.groups
       → IsSessionDamage a b old (names_version old r) page want got
   -- To a command that asks of no objects and gives no tree up, only a catalog that is outside of its grammar is damaged.
   pub catalog : IsOfCatalog r → (page : PageNo) (want got : Seen) → result ≡ Err (stop.Damaged page want got)
@@ -75,8 +81,15 @@ pub record StepKeeps (old new : SessionState) (a b : Outside) (r : Request) (res
       → SaysLog old.geometry records before.disk → (later : List ℕ) × (b.disk ≡ Some later) × SaysLog old.geometry records later
   -- A copy of a version shares its tree: each unit that comes into use is a logged page.
   pub shares : IsCopy r → OnOk result (TakesLogged old.units new.units new.pages)
+  -- A scan that is opened reads through the group that its line names, and what it gives next fills no other group.
+  pub through : ReadsThrough old new.scans new.groups r result
+  -- An edited version is small after it exactly where its record fits its page, and its tree has the shape of its edit; a copy has its version's content, root
+  -- and all; a new object is small.
+  pub shaped : StepShaped a b old new r result
   pub ends : EndKeeps old new a b r result
   pub damage : DamageKept old a b r result
+  -- A reply of a command that reads alone says that each page that it read on its way was what names it.
+  pub way : ReadsAlone r → IfOk result (λ told. TellsBytes a old.groups → IsSoundReply a old r told)
   -- After a fault every step says that the session is down, and calls nothing.
   pub is_down : old.down ≡ true → (result ≡ Err stop.Down) × MakesCalls 0 a b × (new ≡ old)
   pub goes_down : OnErr result (new.down ≡ true)

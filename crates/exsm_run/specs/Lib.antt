@@ -12,3 +12,4 @@ pub mod Dump
 pub mod Load
 pub mod Pack
 pub mod Promises
+pub mod Program

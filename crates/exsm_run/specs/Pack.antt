@@ -17,7 +17,7 @@ use Rattle.command_line.specs.declared.status.Status.{Status}
 use Rattle.command_line.specs.declared.status.Status.TheVariants.{Done, Usage, ScriptFault, OutputFault, DiskFault, BadVolume, Memory, Damaged, AlreadyVolume, TooSmall, ScriptLong, NotEmpty, BadDump, Misfit, NoRoom, NoPages}
 use Rattle.exsm_run.specs.Check.{MaySend}
 use Rattle.exsm_run.specs.Load.{HoldsTableNow}
-use Rattle.exsm_run.specs.Openings.{OpeningPromise}
+use Rattle.exsm_run.specs.Openings.{OpeningPromise, PartsAtSync}
 use Rattle.exsm_run.specs.Script.{HoldsVolume, IsOnVolume}
 
 -- ---- the line
@@ -125,6 +125,7 @@ pub record PackPromise (before after : Outside) (status : Status) : Type 0 where
   -- A crash at any moment leaves what one in an opening may leave: where nothing is pending at entry, the table.
   pub moments : (image : List ℕ) → IsTrue before.honest → before.disk ≡ Some image → Leaves before after (StandsOpening meant before.images image)
   pub moments_settled : (table : Table) (was : List ℕ) → IsOnVolume before table was → Leaves before after (λ d. StandsFor d table)
+  pub parted : PartsAtSync before after status
   -- On a volume nothing but a fault of the disk or of the output, want of memory, or an object that lacks pages stops it, and without those nothing but want of memory.
   pub sound : (table : Table) (was : List ℕ) → HoldsVolume before table was → IsPackStatus status
   pub completes : MayPack before after → (status ≡ Done) ⊎ (status ≡ Memory)

@@ -8,17 +8,16 @@ ghost use Rattle.session_views.specs.Opening.{StandsOpening};
 ghost use Rattle.session_core.specs.Meant.{meant};
 ghost use Rattle.volume_model.specs.Parts.{StandsFor};
 ghost use Rattle.exsm_run.specs.Check.{CheckPromise, IsCount, StopsAs, StopsCount, counts_line};
-ghost use Rattle.exsm_run.specs.Openings.{OpeningPromise};
+ghost use Rattle.exsm_run.specs.Openings.{OpeningPromise, WritesAsOpening};
 ghost use Rattle.exsm_run.specs.Script.{HoldsVolume};
 ghost use Rattle.exsm_run.specs.Status.{IsRefusal};
 
-use crate::opening::status_unopened;
+use crate::opening::opened;
 use crate::session::VolumeSession;
 use crate::status::Status;
 use disk_model::{Host, send_all};
 use session_views::Stop;
 use std::alloc::{AllocError, Global};
-use talks::Opener;
 use transactions::Summary;
 
 // The status where a session that was up stopped.
@@ -46,15 +45,16 @@ fn counted<H: Host>(alloc: Global, host: &mut H) -> Result<Summary, Status>
         → (H.outside host.old).disk ≡ Some image
         → Leaves (H.outside host.old) (H.outside host.new) (StandsOpening meant
         (H.outside host.old).images image) }
+    ensures writes { MatchResult result
+        (λ summary. WritesAsOpening (H.outside host.old) (H.outside host.new) Status.Done)
+        (WritesAsOpening (H.outside host.old) (H.outside host.new)) }
     ensures opened { OnOk result ((image : List ℕ) → (H.outside host.old).disk ≡ Some image
         → (table : Table) × StandsFor image table) }
     ensures opening { IfErr result
         (OpeningPromise (H.outside host.old) (H.outside host.new)) }
 {
-    let mut session = match VolumeSession::open(alloc, host) {
-        Ok(session) => session,
-        Err(fault) => return Err(status_unopened(fault)),
-    };
+    let volume = opened(alloc, host)?;
+    let mut session = VolumeSession::on(alloc, volume);
     match session.summary(alloc, host) {
         Ok(summary) => Ok(summary),
         Err(stop) => Err(status_stopped(stop)),

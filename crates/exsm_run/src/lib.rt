@@ -12,11 +12,13 @@ mod program;
 mod script;
 mod session;
 mod status;
+mod system;
 mod top_call;
 
 pub use command_words::{NamedFile, Wish, file_of, wish_of};
 pub use format::format as make_volume;
-pub use program::{RunEnding, run_program, run_words};
+pub use program::{run_program, run_words};
 pub use session::VolumeSession;
 pub use status::Status;
+pub use system::{RunEnding, System};
 pub use top_call::run;

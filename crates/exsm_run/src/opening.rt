@@ -5,10 +5,13 @@ ghost use Rattle.disk_model.specs.Outside.{DiskOnly, Leaves};
 ghost use Rattle.table_model.specs.declared.table.Table.{Table};
 ghost use Rattle.session_views.specs.Opening.{StandsOpening};
 ghost use Rattle.session_core.specs.Meant.{meant};
+ghost use Rattle.session_core.specs.Sessions.{fresh_session};
+ghost use Rattle.talks.specs.Opening.{Opened};
 ghost use Rattle.volume_model.specs.Parts.{StandsFor};
 ghost use Rattle.restart.specs.Opening.{AreOpened, HoldsAs, RestsAs};
 ghost use Rattle.exsm_run.specs.Check.{StopsCount, unopened_status};
-ghost use Rattle.exsm_run.specs.Openings.{OpeningPromise, RestsWith};
+ghost use Rattle.exsm_run.specs.Fresh.{IsFresh};
+ghost use Rattle.exsm_run.specs.Openings.{OpeningPromise, RestsWith, WritesAsOpening};
 ghost use Rattle.exsm_run.specs.Script.{HoldsVolume};
 
 use crate::status::Status;
@@ -42,6 +45,12 @@ pub(crate) fn opened<H: Host>(alloc: Global, host: &mut H) -> Result<VolumeState
     ensures rests { (table : Table) (was : List ℕ) → HoldsVolume (H.outside host.old) table was
         → MatchResult result (RestsWith table (H.outside host.new))
         (λ status. (status ≡ Status.DiskFault) ⊎ (status ≡ Status.Memory)) }
+
+    // A session on it shows the table for which the volume stood.
+    ensures shows { IfOk result (λ volume. (image : List ℕ) (table : Table)
+        → IsTrue (H.outside host.old).honest → (H.outside host.old).disk ≡ Some image
+        → StandsFor image table
+        → Opened meant IsFresh table (fresh_session volume) (H.outside host.new)) }
     ensures same { IfOk result (λ volume. (image : List ℕ) → IsTrue (H.outside host.old).honest
         → (H.outside host.old).disk ≡ Some image → RestsAs image (H.outside host.new) volume) }
     ensures holds { (image : List ℕ) → IsTrue (H.outside host.old).honest
@@ -52,6 +61,9 @@ pub(crate) fn opened<H: Host>(alloc: Global, host: &mut H) -> Result<VolumeState
         → (H.outside host.old).disk ≡ Some image
         → Leaves (H.outside host.old) (H.outside host.new) (StandsOpening meant
         (H.outside host.old).images image) }
+    ensures writes { MatchResult result
+        (λ volume. WritesAsOpening (H.outside host.old) (H.outside host.new) Status.Done)
+        (WritesAsOpening (H.outside host.old) (H.outside host.new)) }
     ensures opening { IfErr result
         (OpeningPromise (H.outside host.old) (H.outside host.new)) }
 {

@@ -11,6 +11,7 @@ use std::marker::Model;
 use table_model::{Command, Reply};
 use talks::Opener;
 use transactions::{Summary, step, summarize};
+use volume_port::VolumeState;
 
 /// A session that was opened on the volume of a disk.
 #[derive(Drop)]
@@ -34,11 +35,22 @@ impl VolumeSession {
     ghost use Rattle.ex_base.specs.declared.names.PageNo.{PageNo};
     ghost use Rattle.session_views.specs.declared.stop.Stop.{Stop};
     ghost use Rattle.session_views.specs.View.{View, ShowsNow};
-    ghost use Rattle.tree_store.specs.Stored.{Tells};
+    ghost use Rattle.volume_port.specs.Reading.{TellsBytes};
     ghost use Rattle.session_core.specs.Damage.{IsSessionDamage, no_version};
     ghost use Rattle.session_core.specs.Meant.{meant};
-    ghost use Rattle.session_core.specs.Sessions.{SessionState};
+    ghost use Rattle.restart.specs.Opening.{AreOpened};
+    ghost use Rattle.session_core.specs.Sessions.{SessionState, fresh_session};
     ghost use Rattle.transactions.specs.Summaries.{IsSummary};
+
+    /// The session on a volume that was just opened.
+    pub fn on(alloc: Global, volume: VolumeState) -> VolumeSession
+        requires opened { AreOpened volume }
+        ensures { result ≡ fresh_session volume }
+    {
+        VolumeSession {
+            session: Session::make(alloc, volume),
+        }
+    }
 
     /// Sums up what the session shows. The disk is read at most.
     pub fn summary<H: Host>(&mut self, alloc: Global, host: &mut H) -> Result<Summary, Stop>
@@ -53,7 +65,7 @@ impl VolumeSession {
         // What is told of a damaged page stands there, as after a step that names no version.
         ensures stands { (page : PageNo) (want got : Seen)
             → result ≡ Err (Stop.Damaged page want got)
-            → Tells (H.outside host.old) self.old.groups
+            → TellsBytes (H.outside host.old) self.old.groups
             → IsSessionDamage (H.outside host.old) (H.outside host.new) self.old no_version
             page want got }
 
@@ -108,9 +120,7 @@ impl Opener for VolumeSession {
 
     fn open<H: Host>(alloc: Global, host: &mut H) -> Result<VolumeSession, OpenFault> {
         match open_volume(alloc, host) {
-            Ok(volume) => Ok(VolumeSession {
-                session: Session::make(alloc, volume),
-            }),
+            Ok(volume) => Ok(VolumeSession::on(alloc, volume)),
             Err(fault) => Err(fault),
         }
     }

@@ -7,19 +7,20 @@ use Rattle.exsm_run.proofs.check.checked.Goals as goal
 
 pub returns-in-Err-clause-promise : goal.returns-in-Err-clause-promise
 returns-in-Err-clause-promise g c =
-    check_stopped c.in-Err.status c.counted.ensures.only c.in-Err.ensures.stops c.in-Err.ensures.counts c.counted.ensures.any_moment c.in-Err.ensures.opening
+    check_stopped c.in-Err.status c.counted.ensures.only c.in-Err.ensures.stops c.in-Err.ensures.counts c.counted.ensures.any_moment c.in-Err.ensures.writes
+    c.in-Err.ensures.opening
 
 pub returns-in_default-clause-promise : goal.returns-in_default-clause-promise
 returns-in_default-clause-promise g c =
     let s = c.in-Ok.summary in
     check_sent _ s (counts_line s.last s.files s.objects s.versions s.pages s.segs) (g.H.World.is_world c.counted.new.host) c.counted.ensures.only c.in-Ok.ensures.counts c.counted.ensures.any_moment
-    c.in-Ok.ensures.opened refl (unsent (g.H.World.outside c.counted.new.host) _)
+    c.in-Ok.ensures.writes c.in-Ok.ensures.opened refl (unsent (g.H.World.outside c.counted.new.host) _)
 
 pub returns-then-is_err-clause-promise : goal.returns-then-is_err-clause-promise
 returns-then-is_err-clause-promise g c =
     let s = c.in-Ok.summary in
     check_sent _ s c.as_bytes.result.now (g.H.World.is_world c.counted.new.host) c.counted.ensures.only c.in-Ok.ensures.counts c.counted.ensures.any_moment
-    c.in-Ok.ensures.opened (c.as_bytes.ensures.value ∙ c.in-Ok-line_of.ensures)
+    c.in-Ok.ensures.writes c.in-Ok.ensures.opened (c.as_bytes.ensures.value ∙ c.in-Ok-line_of.ensures)
     (cut_line c.as_bytes.result.now c.send_all.ensures.only (at_err c.send_all.result _ (sym c.is_err.ensures.value ∙ c.if-is_err.true) c.send_all.ensures.cause)
     (at_err c.send_all.result _ (sym c.is_err.ensures.value ∙ c.if-is_err.true) c.send_all.ensures.failed))
 
@@ -27,5 +28,5 @@ pub returns-clause-promise : goal.returns-clause-promise
 returns-clause-promise g c =
     let s = c.in-Ok.summary in
     check_sent _ s c.as_bytes.result.now (g.H.World.is_world c.counted.new.host) c.counted.ensures.only c.in-Ok.ensures.counts c.counted.ensures.any_moment
-    c.in-Ok.ensures.opened (c.as_bytes.ensures.value ∙ c.in-Ok-line_of.ensures)
+    c.in-Ok.ensures.writes c.in-Ok.ensures.opened (c.as_bytes.ensures.value ∙ c.in-Ok-line_of.ensures)
     (whole_line c.as_bytes.result.now c.send_all.ensures.only (if_no_error c.send_all.result (sym c.is_err.ensures.value ∙ c.if-is_err.false) c.send_all.ensures.sent))

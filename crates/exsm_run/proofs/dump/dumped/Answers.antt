@@ -10,7 +10,8 @@ send_dump-requires g c = record { ready = can_read (g.H.World.outside c.opened.n
 
 pub returns-in-Err-clause-promise : goal.returns-in-Err-clause-promise
 returns-in-Err-clause-promise g c =
-    dump_unopened c.in-Err.status c.opened.ensures.only c.in-Err.ensures.stops c.in-Err.ensures.rests c.opened.ensures.any_moment c.in-Err.ensures.opening
+    dump_unopened c.in-Err.status c.opened.ensures.only c.in-Err.ensures.stops c.in-Err.ensures.rests c.opened.ensures.any_moment c.in-Err.ensures.writes
+    c.in-Err.ensures.opening
 
 pub returns-in-Ok-send_dump-clause-promise : goal.returns-in-Ok-send_dump-clause-promise
 returns-in-Ok-send_dump-clause-promise g c =
@@ -18,6 +19,7 @@ returns-in-Ok-send_dump-clause-promise g c =
       opening = c.opened.ensures.only;
       rests = c.in-Ok.ensures.rests;
       moments = c.opened.ensures.any_moment;
+      written = c.in-Ok.ensures.writes;
       stood = c.in-Ok.ensures.stood;
       reads = c.send_dump.ensures.only;
     }) c.in-Ok-send_dump.ensures.sent
@@ -29,6 +31,7 @@ returns-clause-promise g c =
       opening = c.opened.ensures.only;
       rests = c.in-Ok.ensures.rests;
       moments = c.opened.ensures.any_moment;
+      written = c.in-Ok.ensures.writes;
       stood = c.in-Ok.ensures.stood;
       reads = c.send_dump.ensures.only;
     }) c.in-Err-send_dump.ensures.sent c.in-Err-send_dump.ensures.cause c.in-Err-send_dump.ensures.sound)

@@ -15,7 +15,8 @@ pack-requires g c = record { ready = can_pack (g.H.World.outside c.opened.new.ho
 
 pub returns-in-Err-clause-promise : goal.returns-in-Err-clause-promise
 returns-in-Err-clause-promise g c =
-    pack_unopened c.in-Err.status c.opened.ensures.only c.in-Err.ensures.stops c.in-Err.ensures.rests c.opened.ensures.holds c.opened.ensures.any_moment c.in-Err.ensures.opening
+    pack_unopened c.in-Err.status c.opened.ensures.only c.in-Err.ensures.stops c.in-Err.ensures.rests c.opened.ensures.holds c.opened.ensures.any_moment
+    c.in-Err.ensures.writes.parted c.in-Err.ensures.opening
 
 pub returns-in-Err-pack-clause-promise : goal.returns-in-Err-pack-clause-promise
 returns-in-Err-pack-clause-promise g c =
@@ -24,6 +25,7 @@ returns-in-Err-pack-clause-promise g c =
       opening = c.opened.ensures.only;
       same = c.in-Ok.ensures.same;
       moments = c.opened.ensures.any_moment;
+      parted = c.in-Ok.ensures.writes.parted (λ is. cc);
       stood = c.in-Ok.ensures.stood;
       only = c.pack.ensures.only;
       any_moment = c.pack.ensures.any_moment;
@@ -41,6 +43,7 @@ returns-then-is_err-clause-promise g c =
       opening = c.opened.ensures.only;
       same = c.in-Ok.ensures.same;
       moments = c.opened.ensures.any_moment;
+      parted = c.in-Ok.ensures.writes.parted (λ is. cc);
       stood = c.in-Ok.ensures.stood;
       only = c.pack.ensures.only;
       any_moment = c.pack.ensures.any_moment;
@@ -60,6 +63,7 @@ returns-clause-promise g c =
       opening = c.opened.ensures.only;
       same = c.in-Ok.ensures.same;
       moments = c.opened.ensures.any_moment;
+      parted = c.in-Ok.ensures.writes.parted (λ is. cc);
       stood = c.in-Ok.ensures.stood;
       only = c.pack.ensures.only;
       any_moment = c.pack.ensures.any_moment;

@@ -1,6 +1,6 @@
 use Rattle.std.proofs.Common.{◌∙◌, ap, arith, sym, subst}
 use Rattle.ex_base.specs.Sizes.{volume_bytes}
-use Rattle.tree_store.specs.Stored.{Tells}
+use Rattle.volume_port.specs.Reading.{TellsBytes}
 use Rattle.session_core.specs.Damage.{IsSessionDamage, no_version}
 use Rattle.session_core.specs.Sessions.{SessionState}
 use Rattle.exsm_run.proofs.session.VolumeSession.summary.Goals as goal
@@ -10,7 +10,7 @@ returns-clause-stands g c page want got is tells =
     let a = g.H.World.outside c.args.host.now in
     let b = g.H.World.outside c.summarize.new.host in
     subst (λ (s : SessionState). IsSessionDamage a b s no_version page want got) c.self.view_is
-    (c.summarize.ensures.stands page want got is (subst (λ (s : SessionState). Tells a s.groups) (sym c.self.view_is) tells))
+    (c.summarize.ensures.stands page want got is (subst (λ (s : SessionState). TellsBytes a s.groups) (sym c.self.view_is) tells))
 
 pub returns-clause-sound : goal.returns-clause-sound
 returns-clause-sound g c before stop same shows is = c.summarize.ensures.sound before stop (same ∙ sym c.self.view_is) shows is

@@ -29,7 +29,10 @@ returns-clause-kept g c =
       unused = promise.unused;
       records = promise.records;
       shares = promise.shares;
+      through = promise.through;
+      shaped = promise.shaped;
       ends = record {
+        writes = promise.writes_home;
         takes_none = promise.takes_none;
         none_counts = promise.none_counts;
         unwritten = promise.unwritten;
@@ -42,6 +45,7 @@ returns-clause-kept g c =
         idle_close = λ name is. if_replied c.step.result (λ same none. calls_nothing g.H.World.outside (same none)) (promise.idle_close name is);
       };
       damage = record { stands = promise.stands; catalog = promise.catalog };
+      way = promise.way;
       is_down = λ is. let down = promise.is_down is in (down.0, calls_nothing g.H.World.outside down.1, down.2);
       goes_down = promise.goes_down;
       stays_up = promise.stays_up;

@@ -21,17 +21,11 @@ returns-in-Ok-clause-left g c image part holds bad = c.open_volume.ensures.left 
 
 pub returns-in-Ok-clause-shows : goal.returns-in-Ok-clause-shows
 returns-in-Ok-clause-shows g c image table honest holds stands =
-    subst (λ (s : SessionState). Opened meant IsFresh table s (g.H.World.outside c.open_volume.new.disk)) (sym c.make.ensures)
+    subst (λ (s : SessionState). Opened meant IsFresh table s (g.H.World.outside c.open_volume.new.disk)) (sym c.on.ensures)
     (shows_opened c.in-Ok.volume image table c.in-Ok.ensures.parts (honest_on c.open_volume.ensures.only.goes honest) (c.in-Ok.ensures.opened image honest holds) stands)
 
 pub returns-in-Ok-clause-any_moment : goal.returns-in-Ok-clause-any_moment
 returns-in-Ok-clause-any_moment g c image honest holds = leaves_opening image (c.open_volume.ensures.any_moment image honest holds)
 
-pub make-requires-clause-groups : goal.make-requires-clause-groups
-make-requires-clause-groups g c = ap (λ (groups : List Frames). map kind_of groups) c.in-Ok.ensures.parts.fresh.groups
-
-pub make-requires-clause-in_use : goal.make-requires-clause-in_use
-make-requires-clause-in_use g c = c.in-Ok.ensures.parts.fresh.reached.in_use
-
 pub returns-in-Ok-clause-room : goal.returns-in-Ok-clause-room
-returns-in-Ok-clause-room g c = subst (λ (s : SessionState). volume_bytes s.geometry ≤ (g.H.World.outside c.open_volume.new.disk).size) (sym c.make.ensures) c.in-Ok.ensures.room
+returns-in-Ok-clause-room g c = subst (λ (s : SessionState). volume_bytes s.geometry ≤ (g.H.World.outside c.open_volume.new.disk).size) (sym c.on.ensures) c.in-Ok.ensures.room
