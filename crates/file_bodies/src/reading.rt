@@ -136,7 +136,7 @@ fn is_named<P: ReadPages>(pages: &mut P, alloc: Global, page: PageNo) -> Result<
     names(pages, alloc, &index, page)
 }
 
-/// Whether a page is one of a file. It is tested itself only where a fault comes on the way to it, which is told where it is a page of a file.
+/// Whether a page is one of a file. It is tested itself only where damage comes on the way to it, which is told where it is a page of a file.
 fn is_of_file<P: ReadPages>(pages: &mut P, alloc: Global, page: PageNo) -> Result<bool, PortFault>
     requires { P.ready pages.old }
     ensures yes { IfOk result (λ of. IsTrue of → P.tells pages.old
@@ -155,6 +155,8 @@ fn is_of_file<P: ReadPages>(pages: &mut P, alloc: Global, page: PageNo) -> Resul
 {
     let fault = match is_named(pages, alloc, page) {
         Ok(named) => return Ok(named),
+        Err(PortFault::Disk) => return Err(PortFault::Disk),
+        Err(PortFault::Memory) => return Err(PortFault::Memory),
         Err(fault) => fault,
     };
     match file_at(pages, alloc, page) {
