@@ -1,2 +1,3 @@
 pub mod PartCuts
 pub mod HexParts
+pub mod PairBits

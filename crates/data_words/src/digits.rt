@@ -1,6 +1,6 @@
 //! Digits, decimal and hexadecimal.
 
-ghost use Rattle.std.specs.Prelude.{◌≡◌, ◌≤◌, ◌<◌, ◌*◌, ◌^◌, true, length, Some, Ok, IfNone, IfOk, IfSome};
+ghost use Rattle.std.specs.Prelude.{◌≡◌, ◌≤◌, ◌<◌, ◌*◌, ◌/◌, ◌%◌, ◌^◌, true, length, Some, Ok, IfNone, IfOk, IfSome};
 ghost use Rattle.std.specs.List.{list_all};
 ghost use Rattle.hex.specs.Hex.{decode_of, hex_digit_value, is_hex_digit};
 ghost use Rattle.table_model.specs.Words.{hex_bytes, is_hex, number_of};
@@ -43,14 +43,18 @@ pub fn is_hex(word: &[u8]) -> bool
     word.len() % 2 == 0 && are_hex_digits(word)
 }
 
-/// The number that a hexadecimal digit writes. Letters, of either case, have 64 and their place in
-/// the alphabet in their code, and digits have theirs in its last four bits.
-fn digit_value(digit: u8) -> u8
-    requires { is_hex_digit digit ≡ true }
-    ensures value { hex_digit_value digit ≡ Some result }
-    ensures small { result < 16 }
+/// The byte that two hexadecimal digits write. Letters, of either case, have 64 and their place in
+/// the alphabet in their code, and digits have theirs in its last four bits. Both are looked at
+/// together, as they stand in memory, so that a loop over pairs is compiled to steps of many bytes.
+fn byte_of(high: u8, low: u8) -> u8
+    requires first { is_hex_digit high ≡ true }
+    requires second { is_hex_digit low ≡ true }
+    ensures high { hex_digit_value high ≡ Some (result / 16) }
+    ensures low { hex_digit_value low ≡ Some (result % 16) }
 {
-    digit % 16 + digit / 64 * 9
+    let pair = u16::from(high) + u16::from(low) * 256;
+    let values = (pair & 0x0f0f) + (pair / 64 & 0x0101) * 9;
+    (values * 16 % 256 + values / 256) as u8
 }
 
 /// Puts the bytes that hexadecimal digits write into `out`.
@@ -60,7 +64,7 @@ fn decode_into(digits: &[u8], out: &mut [u8])
     ensures { decode_of digits.now ≡ Ok out.new }
 {
     for i in 0..out.len() {
-        out[i] = digit_value(digits[2 * i]) * 16 + digit_value(digits[2 * i + 1]);
+        out[i] = byte_of(digits[2 * i], digits[2 * i + 1]);
     }
 }
 

@@ -1,6 +1,7 @@
 ghost use Rattle.std.specs.Prelude.{◌≡◌, ◌<◌, length, slice_get, Some, IfSome, IfNone};
 ghost use Rattle.std.specs.Option.{option_map};
 ghost use Rattle.object_files.specs.Catalog.{Catalog, CatalogOf, entry_bytes};
+ghost use Rattle.object_files.specs.Edits.{IsCatalogPage};
 ghost use Rattle.object_files.specs.Reads.{CatalogReads, catalog_on, entry_of};
 
 use crate::reads::{is_catalog, name_of, number_of, spelled_at};
@@ -32,6 +33,14 @@ impl<'a> CatalogView<'a> {
             return None;
         }
         Some(CatalogView { page })
+    }
+
+    /// The view of a page that is known to be the catalog, without a test.
+    pub fn known(page: &'a [u8]) -> CatalogView<'a>
+        requires { IsCatalogPage page.now }
+        ensures { result ≡ catalog_on page.now }
+    {
+        CatalogView { page }
     }
 
     /// How many files there are.

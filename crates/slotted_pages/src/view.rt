@@ -1,7 +1,7 @@
 ghost use Rattle.std.specs.Prelude.{◌≡◌, ◌+◌, ◌*◌, ◌≤◌, length, IfSome, IfNone, slice_index_or, None};
 ghost use Rattle.std.specs.Option.{option_map};
 ghost use Rattle.slotted_pages.specs.FilePage.{FilePage, SlotsOf, room_of};
-ghost use Rattle.slotted_pages.specs.Reads.{Viewed, viewed_on, PageReads};
+ghost use Rattle.slotted_pages.specs.Reads.{IsPage, Viewed, viewed_on, PageReads};
 
 use crate::reads::{is_file_page, len_in, lens_end, offset_in};
 use crate::{COUNT, FIELD_LEN, FILE_NO};
@@ -33,6 +33,14 @@ impl<'a> SlottedView<'a> {
             return None;
         }
         Some(SlottedView { page })
+    }
+
+    /// The view of a page that is known to be a file page, without a test.
+    pub fn known(page: &'a [u8]) -> SlottedView<'a>
+        requires { IsPage page.now }
+        ensures { result ≡ viewed_on page.now }
+    {
+        SlottedView { page }
     }
 
     /// How many slots the page has, vacant ones included.

@@ -1,4 +1,4 @@
-use Rattle.std.proofs.Common.{◌≡◌, ℕ, ◌+◌, ◌*◌, slice_index, Ok, Some, refl, ap, ◌∙◌, arith}
+use Rattle.std.proofs.Common.{◌≡◌, ℕ, ◌+◌, ◌*◌, ◌/◌, ◌%◌, slice_index, Ok, Some, refl, ap, ◌∙◌, arith}
 use Rattle.hex.specs.Hex.{digit_or_error, hex_digit_value, pair_value, value_at}
 use Rattle.hex.proofs.HexLemmas.{decode_of-even}
 use Rattle.hex.proofs.Pairs.{decode_step, decode_done}
@@ -15,7 +15,8 @@ pub loop-i-preserved : goal.loop-i-preserved
 loop-i-preserved c =
     let s = c.args.digits.now in
     let i = c.loop-i.i in
-    let byte = pair_of (slice_index s (2 * i)) (slice_index s (2 * i + 1)) _ _ (2 * i) c.digit_value.ensures.value c.digit_value-in-loop-i.ensures.value in
+    let halves : c.byte_of.result / 16 * 16 + c.byte_of.result % 16 ≡ c.byte_of.result = omega arith in
+    let byte = pair_of (slice_index s (2 * i)) (slice_index s (2 * i + 1)) _ _ (2 * i) c.byte_of.ensures.high c.byte_of.ensures.low ∙ ap (λ (n : ℕ). Ok n) halves in
     decode_step s c.loop-i.out i _ (omega arith) (omega arith) byte c.loop-i.invariant
 
 pub returns : goal.returns
