@@ -17,3 +17,4 @@ pub mod LaterSizes
 pub mod PagesGone
 pub mod TouchedPages
 pub mod PageNumbers
+pub mod Lacking

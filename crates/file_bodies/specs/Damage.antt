@@ -12,7 +12,7 @@ use Rattle.slotted_pages.specs.Edits.{slots_of, with_slot, trimmed}
 use Rattle.ex_base.specs.declared.names.Index.{Index}
 use Rattle.file_index.specs.Index.{IsFilesPage, seen}
 use Rattle.ex_base.specs.Seen.{catalog_seen, file_page_seen, nothing_seen, record_seen}
-use Rattle.file_index.specs.Damage.{every_page, HasWay, IsIndexFault, IsAddingFault, IsRemovalFault, found_in}
+use Rattle.file_index.specs.Damage.{every_page, HasWay, IsIndexFault, IsAddingFault, IsLeft, IsRemovalFault, found_in}
 use Rattle.object_files.specs.Edits.{IsCatalogPage, entries_on}
 use Rattle.file_bodies.specs.Files.{index_in, IsPageOf, IsLive}
 
@@ -117,11 +117,11 @@ pub data IsPlacingFault (g : Geometry) (held : ℕ → Bool) (image : ℕ → Li
   adding : (page : ℕ) (taken : ℕ → List ℕ) (with_it : ℕ → Bool) → ((p : ℕ) → p ≢ page → (taken p ≡ image p) × (with_it p ≡ held p)) → IsAddingFault g with_it taken index page fault → IsPlacingFault g held image index from fault
 
 -- What a call tells that takes a page out of the file of an index: the catalog lacks the file; or what is told of the index (`now_held` and `now` are
--- what stands when it is told); or the root of the index that is left lies where no page of a file lies.
+-- what stands when it is told); or the root of the index that is left without the page lies where no page of a file lies.
 pub data IsLeavingFault (g : Geometry) (held : ℕ → Bool) (image : ℕ → List ℕ) (now_held : ℕ → Bool) (now : ℕ → List ℕ) (index : Index) (page : ℕ) (fault : PortFault) : Type 0 where
   lost_entry : IsFileFault (image catalog_no) index.file_no fault → IsLeavingFault g held image now_held now index page fault
   removing : IsRemovalFault g held image now_held now index page fault → IsLeavingFault g held image now_held now index page fault
-  bad_root : (left : Index) → left.file_no ≡ index.file_no → left.level ≤ index.level → IsRootFault g left fault → IsLeavingFault g held image now_held now index page fault
+  bad_root : (left : Index) → IsLeft image index left → IsRootFault g left fault → IsLeavingFault g held image now_held now index page fault
 
 -- What a call tells that takes the body at a place out of its file: no record stands there; or what is told of the file that the page shows.
 pub data IsTakingFault (g : Geometry) (held : ℕ → Bool) (image : ℕ → List ℕ) (now_held : ℕ → Bool) (now : ℕ → List ℕ) (place : Place) (fault : PortFault) : Type 0 where
@@ -135,6 +135,14 @@ pub data IsTakingFault (g : Geometry) (held : ℕ → Bool) (image : ℕ → Lis
 abbrev pub IsBelonging : Geometry → (ℕ → List ℕ) → ℕ → Type 0
 IsBelonging g image page = IsFilesPage g page → IsPage (image page)
     → IsCatalogPage (image catalog_no) × ((index : Index) → ListsFile (image catalog_no) (page_on (image page)).file_no index → HasWay g image index page)
+
+-- The page is one of a file: it lies where one may lie and is in the grammar, and the way to it in the index of the file that it shows finds it.
+pub record IsFoundIn (g : Geometry) (image : ℕ → List ℕ) (page : PageNo) : Type 0 where
+  pub area : IsFilesPage g page.0
+  pub spelled : IsPage (image page.0)
+  pub index : Index
+  pub lists : ListsFile (image catalog_no) (page_on (image page.0)).file_no index
+  pub found : found_in image index page.0 ≡ Some page
 
 -- A look at the pages of a file from a number on, which ends at a page or behind the last one: each index page on its ways is what names it, and each page
 -- that they find is one of the file.

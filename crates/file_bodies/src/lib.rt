@@ -13,6 +13,7 @@ mod reading;
 mod removing;
 
 pub use changing::change_body;
+pub use page::body_on;
 pub use placing::{Room, a_lowered_room_stays_true, place_body};
 pub use reading::{bodies_stand_in_order, body_at, body_there, next_place};
 pub use removing::remove_from_file;

@@ -247,8 +247,5 @@ pub fn has_slots(page: &[u8]) -> bool
     ensures some { IsTrue result → 1 ≤ length (slots_of page.now) }
     ensures none { result ≡ false → slots_of page.now ≡ [] }
 {
-    match SlottedView::of(page) {
-        Some(view) => view.slots() > 0,
-        None => false,
-    }
+    SlottedView::known(page).slots() > 0
 }

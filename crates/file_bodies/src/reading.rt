@@ -9,8 +9,8 @@ ghost use Rattle.ex_base.specs.declared.names.Index.{Index};
 ghost use Rattle.file_index.specs.Index.{IsFilesPage};
 ghost use Rattle.file_bodies.specs.Bodies.{bodies_of, pages_in, InPlaceOrder};
 ghost use Rattle.file_bodies.specs.Files.{HasFile, HasFileOf, HasBody, IsOfFile, HasSomeBody};
-ghost use Rattle.file_index.specs.Damage.{every_page, HasWay, IsIndexFault};
-ghost use Rattle.file_bodies.specs.Damage.{IsBelonging, IsBelongingFault, IsLook, IsLookFault, IsListedFault, HasListed, page_from, page_in};
+ghost use Rattle.file_index.specs.Damage.{every_page, HasWay, IsIndexFault, found_in};
+ghost use Rattle.file_bodies.specs.Damage.{IsFoundIn, IsBelonging, IsBelongingFault, IsLook, IsLookFault, IsListedFault, HasListed, page_from, page_in};
 ghost use Rattle.file_bodies.specs.Indexes.{IsUsable};
 ghost use Rattle.file_bodies.specs.Places.{IsNext, FirstFrom};
 
@@ -89,6 +89,8 @@ fn names<P: ReadPages>(
     ensures no { IfOk result (λ named. named ≡ false → P.tells pages.old
         → HasFile P.Ground pages.old index.now
         → Contains (pages_in (P.image pages.old) index.now) page.0 → ⊥) }
+    ensures lacks { IfOk result (λ named. named ≡ false → P.tells pages.old
+        → found_in (P.image pages.old) index.now page.0 ≡ Some page → ⊥) }
     ensures sound { IfErr result (λ fault. IsDamage fault → P.tells pages.old
         → HasFile P.Ground pages.old index.now → ⊥) }
     ensures fault { IfErr result (λ fault. P.tells pages.old
@@ -112,6 +114,8 @@ fn is_named<P: ReadPages>(pages: &mut P, alloc: Global, page: PageNo) -> Result<
         → HasFileOf P.Ground pages.old page.0 → IsOfFile P.Ground pages.old page.0) }
     ensures no { IfOk result (λ of. of ≡ false → P.tells pages.old
         → IsOfFile P.Ground pages.old page.0 → ⊥) }
+    ensures lacks { IfOk result (λ of. of ≡ false → P.tells pages.old
+        → IsFoundIn (P.geometry pages.old) (P.image pages.old) page → ⊥) }
     ensures area { IfOk result (λ of. IsTrue of → IsFilesPage (P.geometry pages.old) page.0) }
     ensures sound { IfErr result (λ fault. IsDamage fault → P.tells pages.old
         → HasFileOf P.Ground pages.old page.0 → ⊥) }
@@ -143,6 +147,8 @@ fn is_of_file<P: ReadPages>(pages: &mut P, alloc: Global, page: PageNo) -> Resul
         → HasFileOf P.Ground pages.old page.0 → IsOfFile P.Ground pages.old page.0) }
     ensures no { IfOk result (λ of. of ≡ false → P.tells pages.old
         → IsOfFile P.Ground pages.old page.0 → ⊥) }
+    ensures lacks { IfOk result (λ of. of ≡ false → P.tells pages.old
+        → IsFoundIn (P.geometry pages.old) (P.image pages.old) page → ⊥) }
     ensures area { IfOk result (λ of. IsTrue of → IsFilesPage (P.geometry pages.old) page.0) }
     ensures sound { IfErr result (λ fault. IsDamage fault → P.tells pages.old
         → HasFileOf P.Ground pages.old page.0 → ⊥) }
@@ -180,6 +186,10 @@ pub fn body_at<P: ReadPages>(
     ensures stands { IfOk result (λ found. P.tells pages.old
         → IfSome found (λ body. slice_index_or
         (slots_of (P.image pages.old place.page.0)) place.slot None ≡ Some body.now)) }
+    ensures none { IfOk result (λ found. IfNone found (P.tells pages.old
+        → IsFoundIn (P.geometry pages.old) (P.image pages.old) place.page → (body : List ℕ)
+        → slice_index_or (slots_of (P.image pages.old place.page.0)) place.slot None ≡ Some body
+        → ⊥)) }
     ensures sound { IfErr result (λ fault. IsDamage fault → P.tells pages.old
         → HasFileOf P.Ground pages.old place.page.0 → ⊥) }
     ensures fault { IfErr result (λ fault. P.tells pages.old
@@ -214,6 +224,11 @@ pub fn body_there<P: ReadPages>(
     ensures stands { IfOk result (λ found. P.tells pages.old
         → IfSome found (λ body. slice_index_or
         (slots_of (P.image pages.old place.page.0)) place.slot None ≡ Some body.now)) }
+    ensures none { IfOk result (λ found. IfNone found (P.tells pages.old
+        → IsFilesPage (P.geometry pages.old) place.page.0 → IsPage (P.image pages.old place.page.0)
+        → (body : List ℕ)
+        → slice_index_or (slots_of (P.image pages.old place.page.0)) place.slot None ≡ Some body
+        → ⊥)) }
     ensures no_damage { IfErr result (λ fault. IsDamage fault → ⊥) }
     ensures* after { sem 𝓛 (Rests P.row pages.entry (λ new. Keeps P.Ground pages.old new
         × HasCause (P.faults pages.old) (P.faults new) result)) }

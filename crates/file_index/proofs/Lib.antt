@@ -29,3 +29,4 @@ pub mod Heights
 pub mod EntryLaws
 pub mod WriteLaws
 pub mod PageLaws
+pub mod Lone

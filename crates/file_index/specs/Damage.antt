@@ -1,5 +1,5 @@
 -- What a fault says of an index page that isn't what names it, and which pages the way to a key leads through.
-use Rattle.std.specs.Prelude.{◌≡◌, ◌≢◌, ◌⊎◌, ◌≤◌, ℕ, zero, suc, Bool, true, false, List, [], ◌∷◌, length, Option, Some, None, nat_lt, if◌then◌else◌, slice_index_or, ⊤}
+use Rattle.std.specs.Prelude.{◌≡◌, ◌≢◌, ◌⊎◌, ◌≤◌, ◌<◌, ◌+◌, ℕ, zero, suc, Bool, true, false, List, [], ◌∷◌, length, Option, Some, None, nat_lt, if◌then◌else◌, slice_index_or, ⊤}
 use Rattle.ex_base.specs.declared.faults.Seen.{Seen}
 use Rattle.ex_base.specs.Seen.{nothing_seen}
 use Rattle.ex_base.specs.declared.faults.PortFault.{PortFault}
@@ -173,3 +173,20 @@ IsBesideFrom g image held now file_no key level (Some page) fault = IsBesideFaul
 -- `now`.
 abbrev pub IsRemovalFault : Geometry → (ℕ → Bool) → (ℕ → List ℕ) → (ℕ → Bool) → (ℕ → List ℕ) → Index → ℕ → PortFault → Type 0
 IsRemovalFault g held image now_held now index key fault = IsIndexFault g held image index key fault ⊎ IsBesideFrom g image now_held now index.file_no key index.level index.root fault
+
+-- ---- what is left
+
+-- Of two entries one is left, which names what one of them named.
+pub record IsLone (old new : List Entry) : Type 0 where
+  pub two : length old ≡ 2
+  pub at : ℕ
+  pub inside : at < 2
+  pub page : (entry_in new 0).page ≡ (entry_in old at).page
+
+-- What is left of an index once the entry of a page is taken out of it: the index as it was; nothing, where it had only one page; or, a level lower, what one of
+-- the two entries of its root names.
+pub data IsLeft (image : ℕ → List ℕ) (index left : Index) : Type 0 where
+  stays : left ≡ index → IsLeft image index left
+  goes : left.root ≡ None → IsLeft image index left
+  falls : (root : PageNo) (at : ℕ) → index.root ≡ Some root → left.level + 1 ≡ index.level → left.file_no ≡ index.file_no → length (entries_on (image root.0)) ≡ 2 → at < 2
+      → left.root ≡ Some (entry_in (entries_on (image root.0)) at).page → IsLeft image index left

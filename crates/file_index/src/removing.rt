@@ -8,7 +8,7 @@ ghost use Rattle.file_index.specs.Changes.{Changes};
 ghost use Rattle.file_index.specs.Index.{IsFilesPage, HasRoot, index_level_most};
 ghost use Rattle.file_index.specs.Nodes.{IsWritten, RemovesLeaf, first_key};
 ghost use Rattle.file_index.specs.Edits.{IsRow, Becomes, HasIndex, EditsIndex, ShrinksTo, take_out};
-ghost use Rattle.file_index.specs.Damage.{IsWayUnder, IsFaultUnder, IsBesideUnder, IsGoneFault, HasWay, IsRemovalFault};
+ghost use Rattle.file_index.specs.Damage.{IsWayUnder, IsFaultUnder, IsBesideUnder, IsGoneFault, HasWay, IsLone, IsLeft, IsRemovalFault};
 ghost use Rattle.file_index.specs.Touches.{TouchesAtMost, index_touches, touches_below};
 ghost use Rattle.file_index.specs.Taking.{OnlyGives};
 
@@ -120,6 +120,8 @@ fn remove_among<P: Pages>(
         → entries.new.items ≡ entries.old.items) }
     ensures fewer { OnOk result ((length entries.new.items ≤ length entries.old.items)
         × (length entries.old.items ≤ length entries.new.items + 1)) }
+    ensures lone { OnOk result (length entries.new.items ≤ 1
+        → IsLone entries.old.items entries.new.items) }
     ensures free { OnOk result (P.free pages.old Page ≤ P.free pages.new Page) }
     ensures gives { OnOk result (OnlyGives P.Ground pages.old pages.new) }
     ensures sound { IfErr result (λ fault. IsDamage fault → P.tells pages.old
@@ -193,6 +195,8 @@ fn remove_below<P: Pages>(
     ensures removes { IfOk result (λ left. P.tells pages.old → HasIndex P.Ground pages.old index.now
         → EditsIndex P.Ground pages.old pages.new (take_out key.0) index.now left) }
     ensures shrinks { IfOk result (λ left. ShrinksTo index.now left) }
+    ensures left { IfOk result (λ left. P.tells pages.old
+        → IsLeft (P.image pages.old) index.now left) }
     ensures free { OnOk result (P.free pages.old Page ≤ P.free pages.new Page) }
     ensures gives { OnOk result (OnlyGives P.Ground pages.old pages.new) }
     ensures sound { IfErr result (λ fault. IsDamage fault → P.tells pages.old
@@ -263,6 +267,8 @@ pub fn remove<P: Pages>(
     ensures removes { IfOk result (λ left. P.tells pages.old → HasIndex P.Ground pages.old index.now
         → EditsIndex P.Ground pages.old pages.new (take_out key.0) index.now left) }
     ensures shrinks { IfOk result (λ left. ShrinksTo index.now left) }
+    ensures left { IfOk result (λ left. P.tells pages.old
+        → IsLeft (P.image pages.old) index.now left) }
     ensures free { OnOk result (P.free pages.old Page ≤ P.free pages.new Page) }
     ensures gives { OnOk result (OnlyGives P.Ground pages.old pages.new) }
     ensures sound { IfErr result (λ fault. IsDamage fault → P.tells pages.old

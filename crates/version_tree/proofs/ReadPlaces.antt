@@ -172,10 +172,10 @@ module _ {S : Type 0} (g : ground.Ghosts S) where
   stored_told s place (Damaged page want got) is never = no_record (λ body r some spelled. never tt some.index body r some.has spelled) (is tt)
 
   -- what a walk tells of a place is told where the record there is read
-  pub step_stored : (s : S) (place : Place) (fault : PortFault) → IsStepFault (g.geometry s) (g.image s) place fault → (IsDamage fault → (index : Index) (body : List ℕ) (is : Record) → HasBody g s index place body → BodyOf body is → ⊥) → IsStoredFault g s place fault
-  step_stored s place fault (own never) h = read_own never
-  step_stored s place fault (of_page told) h = in_its_file told
-  step_stored s place fault (unread is) h = stored_told s place fault (λ damage. is) h
+  pub step_stored : (s : S) (Unlike : Type 0) (place : Place) (fault : PortFault) → IsStepFault (g.geometry s) (g.image s) Unlike place fault → (IsDamage fault → (index : Index) (body : List ℕ) (is : Record) → HasBody g s index place body → BodyOf body is → ⊥) → IsStoredFault g s place fault
+  step_stored s Unlike place fault (own never) h = read_own never
+  step_stored s Unlike place fault (of_page told) h = in_its_file told
+  step_stored s Unlike place fault (unread lacks is) h = stored_told s place fault (λ damage. is) h
 
   module _ (a b : S) (kept : Keeps g a b) where
     pub stored_back : (place : Place) (fault : PortFault) → IsStoredFault g b place fault → IsStoredFault g a place fault

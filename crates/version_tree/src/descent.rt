@@ -9,7 +9,7 @@ ghost use Rattle.file_bodies.specs.Bodies.{bodies_of};
 ghost use Rattle.file_bodies.specs.Files.{HasFile, HasBody};
 ghost use Rattle.versions.specs.Listed.{oid_at, AreByNumber, AreReadable, rank_of, start_rank};
 ghost use Rattle.versions.specs.Versions.{HasRecord, place_of};
-ghost use Rattle.versions.specs.Damage.{record_fault, IsListingFault, IsStepFault, IsWalkedOut};
+ghost use Rattle.versions.specs.Damage.{record_fault, IsListingFault, LacksRecord, IsStepFault, IsWalkedOut};
 ghost use Rattle.version_tree.specs.Linked.{AreLinked, head_in, oids_by_link, oids_from};
 ghost use Rattle.version_tree.specs.Links.{IsDerivedFault, IsLinkedFault, IsReadAnd, IsStartFault, IsWalkFault, IsWalkedFrom, NewerOn};
 
@@ -95,7 +95,8 @@ fn list_at<V: ReadVolume>(
         → (index : Index) (body : List ℕ) (is : Record)
         → HasBody V.Ground volume.old index place body → BodyOf body is → ⊥) }
     ensures fault { IfErr result (λ fault. V.tells volume.old
-        → IsStepFault (V.geometry volume.old) (V.image volume.old) place fault) }
+        → IsStepFault (V.geometry volume.old) (V.image volume.old)
+        (LacksRecord (V.geometry volume.old) (V.image volume.old) after place) place fault) }
     ensures kept { Keeps V.Ground volume.old volume.new }
     ensures cause { HasCause (V.faults volume.old) (V.faults volume.new) result }
 {

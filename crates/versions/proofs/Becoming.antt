@@ -36,7 +36,7 @@ use Rattle.trees.specs.Made.{Extends, Has, IsTaken, AreUsed}
 use Rattle.trees.specs.Grown.{Turned}
 use Rattle.trees.proofs.Counts.{counted_after, counted_back}
 use Rattle.trees.proofs.Laid.{extends_refl}
-use Rattle.versions.specs.Versions.{HasVersion, Change, HasShape, EditsVersion, Spells, IsTreeUnit, AreInUse, IsSmall, StaysSmall, FitsIn, record_len, place_of, content_units, root_of}
+use Rattle.versions.specs.Versions.{HasRecord, HasVersion, Change, HasShape, EditsVersion, Spells, IsTreeUnit, AreInUse, IsSmall, StaysSmall, FitsIn, record_len, place_of, content_units, root_of}
 use Rattle.versions.specs.Edited.{TurnsVersion}
 use Rattle.versions.specs.Put.{PutsRecord, IsPlaced}
 use Rattle.versions.proofs.FileRows.{edit_stands}
@@ -188,6 +188,12 @@ module _ {S : Type 0} (g : ground.Ghosts S) where
       let stands = body_on a m index (place_of oid) has.stored.body ext in_use has.stored.stands in
       never index has.stored.body (subst (λ (p : Place). HasBody g m index p has.stored.body) (sym at) stands) (record_least has.stored.body _ has.stored.spelled)
       (root_is_for (g.geometry m) (g.unit m) made bytes spells.0 spells.1) (root_placed (g.geometry m) (g.unit m) made.height made.page spells.0.named)
+
+  -- where no file has a body there that is as long as its record, no file had the version
+  pub never_stood : (a m : S) (index : Index) (oid : Oid) (is : Record) (place : Place) → Extends g a m → AreInUse g a → HasRecord g a index oid is → place ≡ place_of oid
+      → ((index : Index) (was : List ℕ) → HasBody g m index place was → 36 ≤ length was → ⊥) → ⊥
+  never_stood a m index oid is place ext in_use has at never =
+      never index has.body (subst (λ (p : Place). HasBody g m index p has.body) (sym at) (body_on a m index (place_of oid) has.body ext in_use has.stands)) (record_least has.body is has.spelled)
 
   -- ---- a record of a small version
 

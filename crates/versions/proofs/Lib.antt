@@ -11,3 +11,4 @@ pub mod PageRows
 pub mod Listed
 pub mod Faults
 pub mod Fed
+pub mod There

@@ -49,3 +49,12 @@ of_found (Some x) N P Q R found told never there = there x found told
 pub at_image : {A B : Type 0} (f : A → B) (o : Option A) (y : B) (P : B → Type 0) → option_map f o ≡ Some y → IfSome o (λ x. P (f x)) → P y
 at_image f None y P is h = absurd (let e : None ≡ Some y = is in cc)
 at_image f (Some x) y P is h = let e : f x ≡ y = cc in subst P e h
+
+-- what follows of what is there, where its image is known
+pub of_mapped : {A B : Type 0} (f : A → B) (o : Option A) (y : B) (Q : A → Type 0) {R : Type 0} → option_map f o ≡ Some y → IfSome o Q → ((x : A) → f x ≡ y → Q x → R) → R
+of_mapped f None y Q is told there = absurd (let e : None ≡ Some y = is in cc)
+of_mapped f (Some x) y Q is told there = there x (let e : f x ≡ y = cc in e) told
+
+pub if_err_both : {X E : Type 0} (r : Result X E) (P Q R : E → Type 0) → ((e : E) → P e → Q e → R e) → IfErr r P → IfErr r Q → IfErr r R
+if_err_both (Ok x) P Q R f p q = tt
+if_err_both (Err e) P Q R f p q = f e p q

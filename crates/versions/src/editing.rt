@@ -1,5 +1,5 @@
 //! Edits of versions.
-ghost use Rattle.std.specs.Prelude.{◌≡◌, ◌≤◌, ◌<◌, ◌+◌, ◌++◌, ◌↔◌, ℕ, max, List, length, IfOk, IfErr, OnOk, IsTrue, IsFalse, [], None};
+ghost use Rattle.std.specs.Prelude.{◌≡◌, ◌⊎◌, ◌≤◌, ◌<◌, ◌+◌, ◌++◌, ◌↔◌, ℕ, max, List, length, IfOk, IfErr, OnOk, IsTrue, IsFalse, [], None, ⊤};
 ghost use Rattle.ex_base.specs.Ports.{Keeps, HasCause, IsDamage};
 ghost use Rattle.ex_base.specs.Sizes.{object_most};
 ghost use Rattle.ex_base.specs.declared.names.Area.{Area};
@@ -13,10 +13,10 @@ ghost use Rattle.file_bodies.specs.Files.{HasFileOf, HasBody};
 ghost use Rattle.versions.specs.Versions.{HasRecord, HasVersion, Stands, Change, AreInUse, StaysSmall, FitsIn, InRange, changed, count_of, place_of};
 ghost use Rattle.ex_base.specs.Needs.{growth_need};
 ghost use Rattle.versions.specs.Needs.{edit_need};
-ghost use Rattle.versions.specs.Edited.{change_of, HasNeed, TurnsVersion};
+ghost use Rattle.versions.specs.Edited.{change_of, HasNeed, IsEditable, TurnsVersion};
 ghost use Rattle.versions.specs.Put.{PutsRecord};
 ghost use Rattle.versions.specs.Damage.{no_tree, IsFoundAnd, IsStepFault, IsBytesFault, IsVersionFault};
-ghost use Rattle.file_bodies.specs.Damage.{IsPlaceFault};
+ghost use Rattle.file_bodies.specs.Damage.{IsBelongingFault, IsPlaceFault};
 
 use crate::finding::{Found, find, read_small, stood};
 use crate::growing::{convert, edit_large};
@@ -245,7 +245,7 @@ fn put_edited<V: Volume>(
         → (area : Area) → growth_need (V.geometry volume.old) count 0 area ≤ V.free volume.old area)
         → ⊥) }
     ensures fault { IfErr result (λ fault. V.tells volume.old
-        → IsBytesFault (V.geometry volume.old) (V.unit volume.old) oid.now no_tree fault) }
+        → IsBytesFault (V.geometry volume.old) (V.unit volume.old) oid.now no_tree ⊤ fault) }
     ensures touches { OnOk result (TouchesAtMost V.Ground volume.old volume.new 1) }
     ensures leads { V.leads volume.old volume.new }
     ensures cause { HasCause (V.faults volume.old) (V.faults volume.new) result }
@@ -285,7 +285,7 @@ fn edited_by<V: ReadVolume>(
         → HasBody V.Ground volume.old index place body
         → length (V.image volume.old place.page.0) ≡ (V.geometry volume.old).page_size) }
     ensures fault { IfErr result (λ fault. V.tells volume.old
-        → IsStepFault (V.geometry volume.old) (V.image volume.old) place fault) }
+        → IsStepFault (V.geometry volume.old) (V.image volume.old) ⊤ place fault) }
     ensures kept { Keeps V.Ground volume.old volume.new }
     ensures cause { HasCause (V.faults volume.old) (V.faults volume.new) result }
 {
@@ -320,7 +320,7 @@ fn edited_small<V: ReadVolume>(
         → HasBody V.Ground volume.old index place body
         → length (V.image volume.old place.page.0) ≡ (V.geometry volume.old).page_size) }
     ensures fault { IfErr result (λ fault. V.tells volume.old
-        → IsStepFault (V.geometry volume.old) (V.image volume.old) place fault) }
+        → IsStepFault (V.geometry volume.old) (V.image volume.old) ⊤ place fault) }
     ensures kept { Keeps V.Ground volume.old volume.new }
     ensures cause { HasCause (V.faults volume.old) (V.faults volume.new) result }
 {
@@ -370,8 +370,8 @@ fn edit_small<V: Volume>(
         → growth_need (V.geometry volume.old) (count_of (change_of edit.now)) 0 area
         ≤ V.free volume.old area) → ⊥) }
     ensures fault { IfErr result (λ fault. V.tells volume.old
-        → IsVersionFault (V.geometry volume.old) (V.unit volume.old)
-        (V.image volume.old) oid.now fault) }
+        → IsBelongingFault (V.geometry volume.old) (V.image volume.old) oid.now.page.0 fault
+        ⊎ IsBytesFault (V.geometry volume.old) (V.unit volume.old) oid.now no_tree ⊤ fault) }
     ensures touches { OnOk result (TouchesAtMost V.Ground volume.old volume.new 1) }
     ensures leads { V.leads volume.old volume.new }
     ensures cause { HasCause (V.faults volume.old) (V.faults volume.new) result }
@@ -440,8 +440,8 @@ pub fn apply<V: Volume>(
         → HasNeed V.Ground volume.old (place_of oid.now) content (change_of edit.now)
         (length (changed (change_of edit.now) bytes)) → ⊥) }
     ensures fault { IfErr result (λ fault. V.tells volume.old
-        → IsVersionFault (V.geometry volume.old) (V.unit volume.old)
-        (V.image volume.old) oid.now fault) }
+        → IsVersionFault (V.geometry volume.old) (V.unit volume.old) (V.image volume.old) oid.now
+        (IsEditable V.Ground volume.old oid.now (change_of edit.now) → ⊥) fault) }
     ensures touches { OnOk result (TouchesAtMost V.Ground volume.old volume.new 1) }
     ensures leads { V.leads volume.old volume.new }
     ensures cause { HasCause (V.faults volume.old) (V.faults volume.new) result }

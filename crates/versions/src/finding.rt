@@ -1,5 +1,5 @@
 //! What is told of the version that an OID names, and its bytes.
-ghost use Rattle.std.specs.Prelude.{◌≡◌, ◌≢◌, ◌↔◌, IsTrue, ◌≤◌, ◌+◌, ℕ, List, length, [], ◌<◌, IfOk, IfErr, IfSome, IfNone, IsSome, OnOk, Some, None};
+ghost use Rattle.std.specs.Prelude.{◌≡◌, ◌≢◌, ◌↔◌, IsTrue, ◌≤◌, ◌+◌, ℕ, List, length, [], ◌<◌, IfOk, IfErr, IfSome, IfNone, IsSome, OnOk, Some, None, ⊤};
 ghost use Rattle.ex_base.specs.Bytes.{bytes_at};
 ghost use Rattle.ex_base.specs.Ports.{Keeps, HasCause, IsDamage};
 ghost use Rattle.object_records.specs.Record.{Content, Small, Record, BodyOf, IsRecord};
@@ -11,11 +11,11 @@ ghost use Rattle.file_bodies.specs.Files.{HasFileOf, HasBody};
 ghost use Rattle.trees.specs.Roots.{IsRootFor};
 ghost use Rattle.versions.specs.Versions.{HasRecord, HoldsVersion, Stands, place_of};
 ghost use Rattle.versions.specs.Found.{HasLimits, IsReadable, IsRecordBody, IsTold, found_of};
-ghost use Rattle.versions.specs.Damage.{record_fault, IsFoundAnd, IsFoundAt, IsReadThrough, IsBodyFault, IsFindingFault, IsStepFault, IsVersionFault};
+ghost use Rattle.versions.specs.Damage.{record_fault, IsFoundAnd, IsFoundAt, IsThereAnd, IsReadThrough, IsBodyFault, IsFindingFault, IsStepFault, IsVersionFault};
 
 use crate::recorded::{check, no_record, no_root, place_of};
 use ex_base::{Geometry, Oid, Place, PortFault, ReadVolume, Root};
-use file_bodies::body_at;
+use file_bodies::{body_at, body_on};
 use object_records::{Head, Payload, RecordView};
 use std::alloc::Global;
 use tree_insert::read;
@@ -165,6 +165,8 @@ fn find_reading<V: ReadVolume>(
         (λ root. found.size ≡ root.size))) }
     ensures reads { IfOk result (λ found. IfSome found (λ found. V.tells volume.old
         → IsFoundAt (V.geometry volume.old) (V.image volume.old) oid.now found)) }
+    ensures none { IfOk result (λ found. IfNone found (V.tells volume.old
+        → IsThereAnd (V.geometry volume.old) (V.image volume.old) oid.now (λ found. ⊤) → ⊥)) }
     ensures way { OnOk result (V.tells volume.old
         → IsBelonging (V.geometry volume.old) (V.image volume.old) oid.now.page.0) }
     ensures sound { IfErr result (λ fault. IsDamage fault → V.tells volume.old
@@ -208,6 +210,8 @@ pub fn find<V: ReadVolume>(
         (λ root. found.size ≡ root.size))) }
     ensures reads { IfOk result (λ found. IfSome found (λ found. V.tells volume.old
         → IsFoundAt (V.geometry volume.old) (V.image volume.old) oid.now found)) }
+    ensures none { IfOk result (λ found. IfNone found (V.tells volume.old
+        → IsThereAnd (V.geometry volume.old) (V.image volume.old) oid.now (λ found. ⊤) → ⊥)) }
     ensures way { OnOk result (V.tells volume.old
         → IsBelonging (V.geometry volume.old) (V.image volume.old) oid.now.page.0) }
     ensures sound { IfErr result (λ fault. IsDamage fault → V.tells volume.old
@@ -278,8 +282,8 @@ fn copy_small(body: Option<&[u8]>, place: Place, pos: u64, out: &mut [u8]) -> Re
     }
 }
 
-/// Reads a part of a small version's bytes.
-pub(crate) fn read_small<V: ReadVolume>(
+/// Reads a part of the bytes of a small version that was found. Whether a file has its page isn't looked at again.
+pub fn read_small<V: ReadVolume>(
     volume: &mut V,
     alloc: Global,
     place: Place,
@@ -300,12 +304,15 @@ pub(crate) fn read_small<V: ReadVolume>(
         → HasBody V.Ground volume.old index place body → BodyOf body (small_record head bytes)
         → pos + length out.old ≤ length bytes → ⊥) }
     ensures fault { IfErr result (λ fault. V.tells volume.old
-        → IsStepFault (V.geometry volume.old) (V.image volume.old) place fault) }
+        → IsStepFault (V.geometry volume.old) (V.image volume.old) ⊤ place fault) }
     ensures kept { Keeps V.Ground volume.old volume.new }
     ensures cause { HasCause (V.faults volume.old) (V.faults volume.new) result }
 {
-    match body_at(volume, alloc, place) {
-        Ok(body) => copy_small(body, place, pos, out),
+    if !volume.in_area(place.page) {
+        return Err(no_record(place));
+    }
+    match volume.get(alloc, place.page) {
+        Ok(page) => copy_small(body_on(page, place.slot), place, pos, out),
         Err(fault) => Err(fault),
     }
 }
@@ -341,8 +348,9 @@ pub fn read_at<V: ReadVolume>(
         → HoldsVersion V.Ground volume.old index oid.now head content bytes
         → pos + length out.old ≤ length bytes → ⊥) }
     ensures fault { IfErr result (λ fault. V.tells volume.old
-        → IsVersionFault (V.geometry volume.old) (V.unit volume.old)
-        (V.image volume.old) oid.now fault) }
+        → IsVersionFault (V.geometry volume.old) (V.unit volume.old) (V.image volume.old) oid.now
+        (IsThereAnd (V.geometry volume.old) (V.image volume.old) oid.now
+        (λ found. pos + length out.old ≤ found.size) → ⊥) fault) }
     ensures kept { Keeps V.Ground volume.old volume.new }
     ensures cause { HasCause (V.faults volume.old) (V.faults volume.new) result }
 {

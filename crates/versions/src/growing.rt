@@ -1,5 +1,5 @@
 //! Edits of large versions, and the conversion of a small one.
-ghost use Rattle.std.specs.Prelude.{◌≡◌, ◌≤◌, ◌+◌, ◌^◌, [], ℕ, List, length, IfOk, IfErr, OnOk, IsTrue, false};
+ghost use Rattle.std.specs.Prelude.{◌≡◌, ◌≤◌, ◌+◌, ◌^◌, [], ℕ, List, length, IfOk, IfErr, OnOk, IsTrue, false, ⊤};
 ghost use Rattle.ex_base.specs.Sizes.{object_most};
 ghost use Rattle.ex_base.specs.Fields.{IsPageField};
 ghost use Rattle.ex_base.specs.Ports.{HasCause, IsDamage};
@@ -14,7 +14,7 @@ ghost use Rattle.trees.specs.Damage.{IsWhole, IsRootFault};
 ghost use Rattle.trees.specs.Made.{Extends, AreUsed};
 ghost use Rattle.trees.specs.Grown.{Turned};
 ghost use Rattle.trees.specs.Roots.{IsRootFor};
-ghost use Rattle.versions.specs.Versions.{HasVersion, AreInUse, Change, IsTreeShape, StaysSmall, InRange, changed, count_of, place_of};
+ghost use Rattle.versions.specs.Versions.{HasRecord, HasVersion, AreInUse, Change, IsTreeShape, StaysSmall, InRange, changed, count_of, place_of};
 ghost use Rattle.ex_base.specs.Needs.{growth_need, replace_need, delete_need};
 ghost use Rattle.versions.specs.Needs.{most_need};
 ghost use Rattle.versions.specs.Edited.{change_of, TurnsVersion};
@@ -116,7 +116,7 @@ fn put_root<V: Volume>(
         → 36 ≤ length was
         → IsRootFor (V.geometry volume.old) root.now → IsPlaced root.now.page → ⊥) }
     ensures fault { IfErr result (λ fault. V.tells volume.old
-        → IsPutFault (V.geometry volume.old) place root.now fault) }
+        → IsPutFault V.Ground volume.old place root.now fault) }
     ensures touches { OnOk result (TouchesAtMost V.Ground volume.old volume.new 1) }
     ensures leads { V.leads volume.old volume.new }
     ensures cause { HasCause (V.faults volume.old) (V.faults volume.new) result }
@@ -207,7 +207,11 @@ pub(crate) fn edit_large<V: Volume>(
         → ((area : Area) → most_need (V.geometry volume.old)
         (change_of edit.now) root.now.height area ≤ V.free volume.old area) → ⊥) }
     ensures fault { IfErr result (λ fault. V.tells volume.old
-        → IsBytesFault (V.geometry volume.old) (V.unit volume.old) oid.now root.now fault) }
+        → IsBytesFault (V.geometry volume.old) (V.unit volume.old) oid.now root.now
+        (AreInUse V.Ground volume.old → (index : Index)
+        → HasRecord V.Ground volume.old index oid.now (large_record head.now root.now)
+        → ((area : Area) → most_need (V.geometry volume.old)
+        (change_of edit.now) root.now.height area ≤ V.free volume.old area) → ⊥) fault) }
     ensures touches { OnOk result (TouchesAtMost V.Ground volume.old volume.new 1) }
     ensures leads { V.leads volume.old volume.new }
     ensures cause { HasCause (V.faults volume.old) (V.faults volume.new) result }
@@ -254,7 +258,7 @@ pub(crate) fn convert<V: Volume>(
         → ((area : Area) → growth_need (V.geometry volume.old) count 0 area
         ≤ V.free volume.old area) → ⊥) }
     ensures fault { IfErr result (λ fault. V.tells volume.old
-        → IsBytesFault (V.geometry volume.old) (V.unit volume.old) oid.now no_tree fault) }
+        → IsBytesFault (V.geometry volume.old) (V.unit volume.old) oid.now no_tree ⊤ fault) }
     ensures touches { OnOk result (TouchesAtMost V.Ground volume.old volume.new 1) }
     ensures leads { V.leads volume.old volume.new }
     ensures cause { HasCause (V.faults volume.old) (V.faults volume.new) result }

@@ -16,7 +16,7 @@ mod recorded;
 pub use creating::create;
 pub use digesting::{digest_at, room_for};
 pub use editing::{Edit, Edited, apply};
-pub use finding::{Found, find, read_at, stood, told_of};
+pub use finding::{Found, find, read_at, read_small, stood, told_of};
 pub use growing::large_need;
 pub use listing::{first_rank, head_at, head_of, objects, rank};
 pub use recorded::{check, no_record, oid_at, place_of, root_in};

@@ -1,5 +1,5 @@
 //! The objects of a file.
-ghost use Rattle.std.specs.Prelude.{◌≡◌, ◌⊎◌, ◌≤◌, ◌<◌, ◌++◌, ℕ, List, IfOk, IfErr, IfSome, IsSome, OnOk, Some, IsPermutation};
+ghost use Rattle.std.specs.Prelude.{◌≡◌, ◌⊎◌, ◌≤◌, ◌<◌, ◌++◌, ℕ, List, IfOk, IfErr, IfSome, IsSome, OnOk, Some, None, slice_index_or, IsPermutation};
 ghost use Rattle.ex_base.specs.Ports.{Keeps, HasCause, IsDamage};
 ghost use Rattle.slotted_pages.specs.Reads.{IsPage};
 ghost use Rattle.slotted_pages.specs.Edits.{slots_of};
@@ -10,7 +10,7 @@ ghost use Rattle.ex_base.specs.declared.names.Place.{Place};
 ghost use Rattle.file_index.specs.Index.{IsFilesPage};
 ghost use Rattle.file_bodies.specs.Bodies.{bodies_of, place_at};
 ghost use Rattle.file_bodies.specs.Files.{HasFile, HasBody};
-ghost use Rattle.versions.specs.Damage.{record_fault, IsStepFault, IsListingFault, IsWalkedOut};
+ghost use Rattle.versions.specs.Damage.{record_fault, LacksRecord, IsStepFault, IsListingFault, IsWalkedOut};
 ghost use Rattle.versions.specs.Listed.{oids_in, oids_of, rows_on, rank_of, start_rank, AreByNumber, AreReadable};
 
 use crate::recorded::{no_record, oid_at};
@@ -84,7 +84,8 @@ pub fn head_at<V: ReadVolume>(
         → (index : Index) (body : List ℕ) (is : Record)
         → HasBody V.Ground volume.old index place body → BodyOf body is → ⊥) }
     ensures fault { IfErr result (λ fault. V.tells volume.old
-        → IsStepFault (V.geometry volume.old) (V.image volume.old) place fault) }
+        → IsStepFault (V.geometry volume.old) (V.image volume.old)
+        (LacksRecord (V.geometry volume.old) (V.image volume.old) None place) place fault) }
     ensures kept { Keeps V.Ground volume.old volume.new }
     ensures cause { HasCause (V.faults volume.old) (V.faults volume.new) result }
 {
@@ -114,7 +115,8 @@ fn list_record(oids: &mut Vec<Oid>, place: Place, body: &[u8]) -> Result<(), Por
     ensures listed { OnOk result (oids.new.items
         ≡ oids.old.items ++ oids_in place (record_on body.now).head) }
     ensures sound { IfErr result (λ fault. IsDamage fault → (is : Record) → BodyOf body.now is → ⊥) }
-    ensures fault { IfErr result (λ fault. (IsDamage fault → ⊥) ⊎ (fault ≡ record_fault place)) }
+    ensures fault { IfErr result (λ fault. (IsDamage fault → ⊥)
+        ⊎ (((is : Record) → BodyOf body.now is → ⊥) × (fault ≡ record_fault place))) }
     ensures cause { (before now : ℕ) → HasCause before now result }
 {
     match head_of(body, place) {
@@ -135,7 +137,8 @@ fn list_slots(
     ensures sound { IfErr result (λ fault. IsDamage fault
         → AreReadable (rows_on page.0 from view.now.page.slots) → ⊥) }
     ensures fault { IfErr result (λ fault. (IsDamage fault → ⊥)
-        ⊎ ((slot : ℕ) × (fault ≡ record_fault (place_at page.0 slot)))) }
+        ⊎ ((slot : ℕ) × ((body : List ℕ) → slice_index_or view.now.page.slots slot None ≡ Some body
+        → (is : Record) → BodyOf body is → ⊥) × (fault ≡ record_fault (place_at page.0 slot)))) }
     ensures cause { (before now : ℕ) → HasCause before now result }
 {
     for slot in from..view.slots() {
@@ -171,7 +174,8 @@ fn list_page<V: ReadVolume>(
         (slots_of (V.image volume.old place.page.0))) → ⊥) }
     ensures fault { IfErr result (λ fault. V.tells volume.old → (at : Place)
         × (at.page ≡ place.page)
-        × IsStepFault (V.geometry volume.old) (V.image volume.old) at fault) }
+        × IsStepFault (V.geometry volume.old) (V.image volume.old)
+        (LacksRecord (V.geometry volume.old) (V.image volume.old) after at) at fault) }
     ensures kept { Keeps V.Ground volume.old volume.new }
     ensures cause { HasCause (V.faults volume.old) (V.faults volume.new) result }
 {

@@ -55,10 +55,10 @@ module _ (g : Geometry) (held : ℕ → Bool) (image : ℕ → List ℕ) (units 
   told_finding oid fault (versions.in_file is) = damage.of_page oid.page.0 is
   told_finding oid fault (versions.at_place body stands is) = of_body oid body fault stands is
 
-  of_bytes : (oid : Oid) (root : Root) (fault : PortFault) → asked oid → (trees.IsRootFault g units root fault → IsHere fault) → IsBytesFault g units oid root fault → IsHere fault
+  of_bytes : {Unlike : Type 0} (oid : Oid) (root : Root) (fault : PortFault) → asked oid → (trees.IsRootFault g units root fault → IsHere fault) → IsBytesFault g units oid root Unlike fault → IsHere fault
   of_bytes oid root fault own in_tree (versions.ports_own is) = damage.ports_own is
   of_bytes oid root fault own in_tree (versions.in_tree is) = in_tree is
-  of_bytes oid root fault own in_tree (versions.unlike is) = damage.of_record (place_of oid) (damage.asked_for oid own refl is)
+  of_bytes oid root fault own in_tree (versions.unlike lacks is) = damage.of_record (place_of oid) (damage.asked_for oid own refl is)
   of_bytes oid root fault own in_tree (versions.bad_made made out is) = damage.of_root (damage.made oid made own out is)
 
   no_tree_told : (fault : PortFault) → trees.IsRootFault g units no_tree fault → IsHere fault
@@ -66,9 +66,10 @@ module _ (g : Geometry) (held : ℕ → Bool) (image : ℕ → List ℕ) (units 
   no_tree_told port.Memory is = damage.ports_own (λ none. none)
   no_tree_told (port.Damaged page want got) is = absurd is
 
-  pub told_version : (oid : Oid) (fault : PortFault) → asked oid → IsVersionFault g units image oid fault → IsHere fault
+  pub told_version : {Unlike : Type 0} (oid : Oid) (fault : PortFault) → asked oid → IsVersionFault g units image oid Unlike fault → IsHere fault
   told_version oid fault own (versions.looking is) = told_finding oid fault is
-  told_version oid fault own (versions.small is) = of_bytes oid no_tree fault own (no_tree_told fault) is
+  told_version oid fault own (versions.not_asked lacks is) = damage.of_record (place_of oid) (damage.asked_for oid own refl is)
+  told_version oid fault own (versions.small at is) = of_bytes oid no_tree fault own (no_tree_told fault) is
   told_version oid fault own (versions.large root at is) = of_bytes oid root fault own (damage.of_tree oid root at) is
 
   -- ---- links

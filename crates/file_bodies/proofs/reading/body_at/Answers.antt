@@ -5,6 +5,8 @@ use Rattle.std.specs.Prelude.{IfSome, slice_index_or}
 use Rattle.ex_base.proofs.Results.{if_err_handed}
 use Rattle.std.proofs.Common.{List, None, Some, ap, length, refl, subst, sym, ℕ, ◌∙◌, ◌≡◌}
 use Rattle.ex_base.proofs.Handed.{handed_after, no_value, not_given}
+use Rattle.file_bodies.proofs.Lacking.{lent_none}
+use Rattle.slotted_pages.specs.Reads.{IsPage}
 use Rattle.file_bodies.proofs.LaterSizes.{size_before}
 use Rattle.file_bodies.proofs.OwnFaults.{own_catalog}
 use Rattle.slotted_pages.specs.Edits.{slots_of}
@@ -26,6 +28,10 @@ returns g c = (
         c.is_of_file.ensures.kept.images in
         subst (λ (t : List ℕ). IfSome c.body_on.result (λ body. slice_index_or (slots_of t) c.args.place.slot None ≡ Some body.now)) read
         c.body_on.ensures.some;
+    none = lent_none _ c.body_on.result _ (λ never told is body stands.
+        let read = c.in_ok-page.ensures.bytes (g.P.Ground.leads_told _ _ c.is_of_file.ensures.kept.leads told) ∙ ap (λ (f : ℕ → List ℕ). f c.args.place.page.0)
+        c.is_of_file.ensures.kept.images in
+        never body (c.body_on.ensures.body (subst IsPage (sym read) is.spelled) ∙ subst (λ (t : List ℕ). slice_index_or (slots_of t) c.args.place.slot None ≡ Some body) (sym read) stands));
     sound = tt;
     fault = tt;
     way = c.in-Ok-true.ensures.way;
@@ -53,6 +59,7 @@ returns-in_err-page g c = (
   record {
     found = no_value c.from_residual.result _ c.in_err-page.field-0.0 c.from_residual.ensures.1;
     stands = no_value c.from_residual.result _ c.in_err-page.field-0.0 c.from_residual.ensures.1;
+    none = no_value c.from_residual.result _ c.in_err-page.field-0.0 c.from_residual.ensures.1;
     sound = if_err_handed c.from_residual.result _ c.in_err-page.field-0.0 c.from_residual.ensures.1
         (λ damage told files. c.in_err-page.ensures.no_damage damage);
     fault = if_err_handed c.from_residual.result _ c.in_err-page.field-0.0 c.from_residual.ensures.1
@@ -66,7 +73,7 @@ returns-in_err-page g c = (
 pub returns-in-Err : goal.returns-in-Err
 returns-in-Err g c = (
   (refl, λ s. tt, (c.is_of_file.ensures.kept, c.in-Err.ensures.cause)),
-  record { found = tt; stands = tt; sound = c.in-Err.ensures.sound; fault = c.in-Err.ensures.fault; way = tt; page = tt; after = tt },
+  record { found = tt; stands = tt; none = tt; sound = c.in-Err.ensures.sound; fault = c.in-Err.ensures.fault; way = tt; page = tt; after = tt },
 )
 
 pub get-requires-clause-page : goal.get-requires-clause-page
@@ -82,6 +89,7 @@ returns-in-Ok-false g c = (
     found = λ told files body has. c.in-Ok-false.ensures.no c.in-Ok-false.field-0-test told
         (record { index = has.index; file = has.has.file; named = has.has.named });
     stands = λ told. tt;
+    none = λ told is body stands. c.in-Ok-false.ensures.lacks c.in-Ok-false.field-0-test told is;
     sound = tt;
     fault = tt;
     way = c.in-Ok-false.ensures.way;

@@ -6,6 +6,7 @@ use Rattle.std.proofs.Common.{List, None, Some, refl, subst, sym, ℕ, ◌∙◌
 use Rattle.std.specs.Prelude.{IfSome, slice_index_or}
 use Rattle.slotted_pages.specs.Reads.{IsPage}
 use Rattle.slotted_pages.specs.Edits.{slots_of}
+use Rattle.file_bodies.proofs.Lacking.{lent_none}
 use Rattle.file_bodies.proofs.Belonging.{of_body, of_lies, of_page}
 use Rattle.file_bodies.proofs.reading.body_there.Goals as goal
 
@@ -20,6 +21,9 @@ returns g c = (
     stands = λ told.
         subst (λ (t : List ℕ). IfSome c.body_on.result (λ body. slice_index_or (slots_of t) c.args.place.slot None ≡ Some body.now)) (c.in_ok-page.ensures.bytes told)
         c.body_on.ensures.some;
+    none = lent_none _ c.body_on.result _ (λ never told area spelled body stands.
+        let read = c.in_ok-page.ensures.bytes told in
+        never body (c.body_on.ensures.body (subst IsPage (sym read) spelled) ∙ subst (λ (t : List ℕ). slice_index_or (slots_of t) c.args.place.slot None ≡ Some body) (sym read) stands));
     no_damage = tt;
     after = tt;
   },
@@ -39,6 +43,7 @@ returns-in_err-page g c = (
   record {
     found = no_value c.from_residual.result _ c.in_err-page.field-0.0 c.from_residual.ensures.1;
     stands = no_value c.from_residual.result _ c.in_err-page.field-0.0 c.from_residual.ensures.1;
+    none = no_value c.from_residual.result _ c.in_err-page.field-0.0 c.from_residual.ensures.1;
     no_damage = if_err_handed c.from_residual.result _ c.in_err-page.field-0.0 c.from_residual.ensures.1 c.in_err-page.ensures.no_damage;
     after = tt;
   },
@@ -51,6 +56,7 @@ returns-then-not-may_be_of_file g c = (
     found = λ told index body has.
         absurd (c.may_be_of_file.ensures.never c.if-not-may_be_of_file.true (of_lies g.P.Ground c.args.pages.now c.args.place.page.0 (of_body g.P.Ground c.args.pages.now index c.args.place body has)));
     stands = λ told. tt;
+    none = λ told area spelled body stands. c.may_be_of_file.ensures.never c.if-not-may_be_of_file.true area;
     no_damage = tt;
     after = tt;
   },

@@ -3,6 +3,7 @@ use Rattle.file_bodies.proofs.Blame.{belonging_fault, belonging_lacks, belonging
 use Rattle.file_bodies.specs.Damage.{IsCatalogFault, broken_catalog}
 use Rattle.ex_base.proofs.Keeping.{keeps_on}
 use Rattle.ex_base.proofs.Handed.{any_value, cause_after, cause_of}
+use Rattle.file_bodies.proofs.Lacking.{lacks_file, lacks_page}
 use Rattle.file_bodies.proofs.OwnFaults.{own_catalog}
 use Rattle.object_files.specs.Edits.{IsCatalogPage}
 use Rattle.std.proofs.Common.{refl}
@@ -139,3 +140,19 @@ returns-in-Ok-None-clause-kept g c = c.named_at.ensures.kept
 
 pub returns-in-Err-clause-cause : goal.returns-in-Err-clause-cause
 returns-in-Err-clause-cause g c = c.in-Err.ensures.cause
+
+pub returns-in-Ok-None-clause-lacks : goal.returns-in-Ok-None-clause-lacks
+returns-in-Ok-None-clause-lacks g c = λ f told is. at_none c.in-Ok-None.field-0 _ c.in-Ok-None.field-0-is c.in-Ok-None.ensures.none told is.area is.spelled
+
+pub returns-in-Ok-None-find_index-clause-lacks : goal.returns-in-Ok-None-find_index-clause-lacks
+returns-in-Ok-None-find_index-clause-lacks g c = λ f.
+    lacks_file g.P.Ground c.args.pages.now c.named_at.new.pages c.args.page c.in-Ok-Some.file_no c.named_at.ensures.kept
+    (at_some c.in-Ok-Some.field-0 c.in-Ok-Some.file_no _ c.in-Ok-Some.field-0-is c.in-Ok-Some.ensures.some) c.in-Ok-None-find_index.field-0
+    c.in-Ok-None-find_index.ensures.found c.in-Ok-None-find_index.field-0-is
+
+pub returns-clause-lacks : goal.returns-clause-lacks
+returns-clause-lacks g c = IfOk-weaker c.names.result _ _ (λ of lacks f.
+    lacks_page g.P.Ground c.args.pages.now c.named_at.new.pages c.args.page c.in-Ok-Some.file_no c.named_at.ensures.kept
+    (at_some c.in-Ok-Some.field-0 c.in-Ok-Some.file_no _ c.in-Ok-Some.field-0-is c.in-Ok-Some.ensures.some) c.in-Ok-Some-find_index.field-0
+    c.in-Ok-Some-find_index.ensures.found c.find_index.new.pages c.in-Ok-Some-find_index.index c.find_index.ensures.kept
+    c.in-Ok-Some-find_index.field-0-is (lacks f)) c.names.ensures.lacks

@@ -16,3 +16,9 @@ returns-in-Ok-None-clause-no g c = λ f told of.
     at_none c.in-Ok-None.field-0 _ c.in-Ok-None.field-0-is c.in-Ok-None.ensures.none (g.P.Ground.leads_told _ _ c.is_named.ensures.kept.leads told)
     (subst (λ (y : Geometry). IsFilesPage y c.args.page.0) (sym (g.P.Ground.leads_geometry _ _ c.is_named.ensures.kept.leads)) (of_lies g.P.Ground c.args.pages.now c.args.page.0 of))
     (subst (λ (f : ℕ → List ℕ). IsPage (f c.args.page.0)) (sym c.is_named.ensures.kept.images) (of_page g.P.Ground c.args.pages.now c.args.page.0 of))
+
+pub returns-in-Ok-None-clause-lacks : goal.returns-in-Ok-None-clause-lacks
+returns-in-Ok-None-clause-lacks g c = λ f told is.
+    at_none c.in-Ok-None.field-0 _ c.in-Ok-None.field-0-is c.in-Ok-None.ensures.none (g.P.Ground.leads_told _ _ c.is_named.ensures.kept.leads told)
+    (subst (λ (y : Geometry). IsFilesPage y c.args.page.0) (sym (g.P.Ground.leads_geometry _ _ c.is_named.ensures.kept.leads)) is.area)
+    (subst (λ (f : ℕ → List ℕ). IsPage (f c.args.page.0)) (sym c.is_named.ensures.kept.images) is.spelled)

@@ -1,4 +1,6 @@
-use Rattle.std.proofs.Common.{subst, arith, Some, eq-eqb, eqb-true, sym, true≢false, ◌∙◌}
+use Rattle.std.proofs.Common.{◌≡◌, ap, subst, arith, Some, None, eq-eqb, eqb-true, sym, true≢false, ◌∙◌}
+use Rattle.std.proofs.lemmas.Option.{same_Some}
+use Rattle.ex_base.specs.declared.names.PageNo.{PageNo}
 use Rattle.file_index.specs.Least.{IsLeastFrom}
 use Rattle.file_bodies.specs.Bodies.{pages_in}
 use Rattle.std.proofs.lemmas.Bool.{false≢true}
@@ -53,3 +55,11 @@ returns-in-Ok-Some-clause-no g c = λ f told file named.
     (c.in-Ok-Some.ensures.least told file.whole) in
     let same = least_named (pages_in (g.P.Ground.image c.args.pages.now) c.args.index.now) c.args.page.0 c.in-Ok-Some.found least named in
     true≢false (sym (eq-eqb c.in-Ok-Some.found.0 c.args.page.0 same) ∙ sym c.eq.ensures ∙ f)
+
+pub returns-in-Ok-None-clause-lacks : goal.returns-in-Ok-None-clause-lacks
+returns-in-Ok-None-clause-lacks g c = λ f told at. let e : None ≡ Some c.args.page = sym c.in-Ok-None.field-0-is ∙ c.in-Ok-None.ensures.found told ∙ at in cc
+
+pub returns-in-Ok-Some-clause-lacks : goal.returns-in-Ok-Some-clause-lacks
+returns-in-Ok-Some-clause-lacks g c = λ f told at.
+    let same : c.in-Ok-Some.found ≡ c.args.page = same_Some _ _ (sym c.in-Ok-Some.field-0-is ∙ c.in-Ok-Some.ensures.found told ∙ at) in
+    true≢false (sym (eq-eqb c.in-Ok-Some.found.0 c.args.page.0 (ap (λ (p : PageNo). p.0) same)) ∙ sym c.eq.ensures ∙ f)

@@ -12,7 +12,7 @@ use Rattle.file_bodies.proofs.Leaving.{left, kept_leaves}
 use Rattle.ex_base.specs.declared.geometry.Geometry.{Geometry}
 use Rattle.ex_base.proofs.Counts.{contains_times}
 use Rattle.file_index.specs.Index.{HasPlacedRoot}
-use Rattle.file_index.specs.Damage.{IsRemovalFault, HasWay}
+use Rattle.file_index.specs.Damage.{IsLeft, IsRemovalFault, HasWay}
 use Rattle.file_bodies.specs.Damage.{listed, removing, bad_root, IsFileFault, lost_entry, unlisted}
 use Rattle.file_bodies.proofs.Blame.{carried_held, carried}
 use Rattle.ex_base.proofs.Handed.{cause_after, cause_of}
@@ -84,7 +84,8 @@ pub returns-then-not-has_placed_root-clause-fault : goal.returns-then-not-has_pl
 returns-then-not-has_placed_root-clause-fault g c = λ told.
     let leads = g.P.Ground.leads_trans c.args.pages.now c.index_of.new.pages c.remove.new.pages c.index_of.ensures.kept.leads c.remove.ensures.leads in
     listed c.in-Ok.index (c.in-Ok.ensures.lists told)
-    (bad_root c.in-Ok-remove.left c.in-Ok-remove.ensures.shrinks.same_file c.in-Ok-remove.ensures.shrinks.no_more
+    (bad_root c.in-Ok-remove.left
+    (carried g.P.Ground c.args.pages.now c.index_of.new.pages (λ y u. IsLeft u c.in-Ok.index c.in-Ok-remove.left) c.index_of.ensures.kept c.in-Ok-remove.ensures.left told)
     (c.no_root.ensures.fault (g.P.Ground.geometry c.args.pages.now) (λ placed. c.has_placed_root.ensures.other c.if-not-has_placed_root.true
     (subst (λ (y : Geometry). HasPlacedRoot y c.in-Ok-remove.left.root) (sym (g.P.Ground.leads_geometry c.args.pages.now c.remove.new.pages leads)) placed))))
 

@@ -23,6 +23,7 @@ use Rattle.ex_base.specs.Area.{catalog_no}
 use Rattle.ex_base.specs.declared.names.Area.{Area}
 use Rattle.ex_base.specs.declared.names.Area.TheVariants.{Page, Segment}
 use Rattle.file_index.proofs.Chains.{keeps_gives, same_gives, gives_on, more_none, less_on, le_from, free_on, two_levels, level_below, touched_below, touched_here}
+use Rattle.file_index.proofs.Lone.{as_many, leaf_lone, pair_lone}
 use Rattle.file_index.proofs.Rooms.{first_inside, second_inside, enough_some}
 use Rattle.file_index.specs.Index.{IsFilesPage}
 use Rattle.file_index.proofs.removing.+remove_among.Goals as goal
@@ -601,3 +602,36 @@ spread-requires-clause-held g t c =
           c.args.file_no;
     }) c.saturating_sub-first.ensures refl (subst (λ (l : List Entry). c.place_of-at.result < length l) c.deref.ensures.value
     c.place_of-at.ensures.place.inside) c.index-child.ensures c.index.ensures c.index-2.ensures)) c.in_ok-still_held-in-Ok-true.ensures.held
+
+pub returns-then-level-eq1-clause-lone : goal.returns-then-level-eq1-clause-lone
+returns-then-level-eq1-clause-lone g t c =
+    let inside = subst (λ (l : List Entry). c.place_of-at.result < length l) c.deref.ensures.value c.place_of-at.ensures.place.inside in
+    leaf_lone c.args.key c.place_of-at.result c.index-child.result.now c.args.entries.now.items c.remove_leaf.new.entries.items c.remove_leaf.result inside c.requires.some
+    (removed_fewer c.args.key c.place_of-at.result c.index-child.result.now c.args.entries.now.items c.remove_leaf.new.entries.items c.remove_leaf.result inside c.remove_leaf.ensures).1
+    c.remove_leaf.ensures
+
+pub returns-in-Ok-false-clause-lone : goal.returns-in-Ok-false-clause-lone
+returns-in-Ok-false-clause-lone g t c = as_many _ _ (le_from refl) c.requires.some
+
+pub returns-then-len-most_entries-clause-lone : goal.returns-then-len-most_entries-clause-lone
+returns-then-len-most_entries-clause-lone g t c = on_ok_weaker c.write_child.result (λ items.
+    as_many _ _ (omega (arith, replaced_once c.args.entries.now.items c.write_child.new.entries.items c.place_of-at.result (record { key = first_key c.deref-then-len-most_entries.result.now; page = c.index-child.result.now.page }) (subst (λ (l : List Entry). c.place_of-at.result < length l) c.deref.ensures.value c.place_of-at.ensures.place.inside) items)) c.requires.some) c.write_child.ensures.items
+
+pub returns-in-Ok-spread-clause-lone : goal.returns-in-Ok-spread-clause-lone
+returns-in-Ok-spread-clause-lone g t c =
+    let second = second_inside _ _ _ c.saturating_sub-first.ensures (subst (λ (l : List Entry). c.place_of-at.result < length l) c.deref.ensures.value c.place_of-at.ensures.place.inside) c.requires.some in
+    pair_lone c.saturating_sub-first.result c.index.result.now c.in-Ok-spread.left c.in-Ok-spread.right c.args.entries.now.items c.replace_two.new.entries.items second
+    (replaced_pair c.args.entries.now.items c.replace_two.new.entries.items c.saturating_sub-first.result c.in-Ok-spread.left c.in-Ok-spread.right second c.replace_two.ensures).1
+    c.index.ensures c.in-Ok-spread.ensures.page c.replace_two.ensures
+
+pub returns-in-Err-clause-lone : goal.returns-in-Err-clause-lone
+returns-in-Err-clause-lone g t c = tt
+
+pub returns-in-Err-remove_among-clause-lone : goal.returns-in-Err-remove_among-clause-lone
+returns-in-Err-remove_among-clause-lone g t c = tt
+
+pub returns-in-Err-spread-clause-lone : goal.returns-in-Err-spread-clause-lone
+returns-in-Err-spread-clause-lone g t c = tt
+
+pub returns-in_err-still_held-in-Ok-true-clause-lone : goal.returns-in_err-still_held-in-Ok-true-clause-lone
+returns-in_err-still_held-in-Ok-true-clause-lone g t c = not_given c.from_residual.result _ c.in_err-still_held-in-Ok-true.field-0.0 c.from_residual.ensures.1

@@ -1,4 +1,5 @@
 use Rattle.std.proofs.Common.{refl}
+use Rattle.file_index.specs.Damage.{goes, stays}
 use Rattle.file_index.proofs.Chains.{same_gives, more_none, le_from}
 use Rattle.file_index.proofs.removing.remove.Goals as goal
 
@@ -121,3 +122,15 @@ remove_below-requires-clause-ready g c = c.requires.ready
 
 pub remove_below-requires-clause-root : goal.remove_below-requires-clause-root
 remove_below-requires-clause-root g c = c.in-Some.is
+
+pub returns-then-index-gt0-clause-left : goal.returns-then-index-gt0-clause-left
+returns-then-index-gt0-clause-left g c = c.remove_below.ensures.left
+
+pub returns-clause-left : goal.returns-clause-left
+returns-clause-left g c = λ told. goes refl
+
+pub returns-then-ne-clause-left : goal.returns-then-ne-clause-left
+returns-then-ne-clause-left g c = λ told. stays refl
+
+pub returns-in_default-clause-left : goal.returns-in_default-clause-left
+returns-in_default-clause-left g c = λ told. stays refl

@@ -14,6 +14,8 @@ use Rattle.ex_base.specs.declared.names.Area.{Area}
 use Rattle.ex_base.specs.declared.names.Area.TheVariants.{Page, Segment}
 use Rattle.file_index.specs.IndexPage.{most_entries}
 use Rattle.file_index.proofs.Growing.{shrinks_same, shrinks_one}
+use Rattle.file_index.specs.Damage.{stays}
+use Rattle.file_index.proofs.Lone.{falls_to}
 use Rattle.file_index.proofs.Rooms.{left_some}
 use Rattle.file_index.proofs.Chains.{keeps_gives, same_gives, given_gives, gives_on, more_none, less_on, le_from, free_on, touched_top, touched_level}
 use Rattle.file_index.proofs.removing.remove_below.Goals as goal
@@ -517,3 +519,35 @@ returns-clause-catalog g c =
 pub remove_among-requires-clause-buffer : goal.remove_among-requires-clause-buffer
 remove_among-requires-clause-buffer g c =
     size_after g.P.Ground _ _ c.entries_at.ensures.kept.leads _ (ap length c.deref_mut.ensures.value ∙ c.in-Ok.ensures.len)
+
+pub returns-in-Err-clause-left : goal.returns-in-Err-clause-left
+returns-in-Err-clause-left g c = tt
+
+pub returns-in-Err-entries_at-clause-left : goal.returns-in-Err-entries_at-clause-left
+returns-in-Err-entries_at-clause-left g c = tt
+
+pub returns-in-Err-remove_among-clause-left : goal.returns-in-Err-remove_among-clause-left
+returns-in-Err-remove_among-clause-left g c = tt
+
+pub returns-in_err-still_held-in-Ok-true-clause-left : goal.returns-in_err-still_held-in-Ok-true-clause-left
+returns-in_err-still_held-in-Ok-true-clause-left g c = no_value c.from_residual.result _ c.in_err-still_held-in-Ok-true.field-0.0 c.from_residual.ensures.1
+
+pub returns-in_err-put_index-clause-left : goal.returns-in_err-put_index-clause-left
+returns-in_err-put_index-clause-left g c =
+    no_value c.from_residual-in_err-put_index.result _ c.in_err-put_index.field-0.0 c.from_residual-in_err-put_index.ensures.1
+
+pub returns-in_err-give_page-clause-left : goal.returns-in_err-give_page-clause-left
+returns-in_err-give_page-clause-left g c =
+    no_value c.from_residual-in_err-give_page.result _ c.in_err-give_page.field-0.0 c.from_residual-in_err-give_page.ensures.1
+
+pub returns-in-Ok-false-clause-left : goal.returns-in-Ok-false-clause-left
+returns-in-Ok-false-clause-left g c = λ told. stays refl
+
+pub returns-then-len-gt1-clause-left : goal.returns-then-len-gt1-clause-left
+returns-then-len-gt1-clause-left g c = λ told. stays refl
+
+pub returns-clause-left : goal.returns-clause-left
+returns-clause-left g c = λ told.
+    let one : length c.remove_among.new.entries.items ≡ 1 = omega (arith, c.if-len-gt1.false, c.in-Ok-true.ensures.fewer, c.in-Ok-entries_at.ensures.few) in
+    falls_to (g.P.Ground.image c.args.pages.now) c.args.index.now _ c.args.root c.index.result.now c.in-Ok-entries_at.entries.items c.remove_among.new.entries.items c.requires.root
+    (omega (arith, c.requires.level)) refl refl (c.in-Ok-entries_at.ensures.entries told) (c.in-Ok-true.ensures.lone (omega (arith, one))) one c.index.ensures

@@ -5,7 +5,7 @@ use Rattle.file_index.specs.Damage.{every_page}
 use Rattle.file_bodies.specs.Damage.{IsListedFault, IsLookFault, page_from}
 use Rattle.file_bodies.proofs.Blame.{carried}
 use Rattle.file_bodies.proofs.Moving.{kept_body}
-use Rattle.versions.specs.Damage.{IsStepFault, on_to, stepping, walking}
+use Rattle.versions.specs.Damage.{IsStepFault, LacksRecord, on_to, stepping, walking}
 use Rattle.versions.proofs.Listed.{ListedTo, comes_next, listed_none, told_b, file_b, done, first, stands, rises, readable, one_more, walked_out}
 use Rattle.versions.proofs.RowsListed.{IsListed}
 use Rattle.version_tree.specs.Lineage.{member_of}
@@ -62,7 +62,7 @@ returns-in-Err-clause-fault g c = λ told. walking c.places.after (c.places.inva
 pub returns-in-Err-collect_at-clause-fault : goal.returns-in-Err-collect_at-clause-fault
 returns-in-Err-collect_at-clause-fault g c = λ told. stepping c.places.after c.in-Ok-Some.place (c.places.invariant.walked told)
     (comes_next g.V.Ground c.args.volume.now c.places.volume c.args.file_no c.places.after _ c.in-Ok-Some.place c.places.invariant.kept c.in-Ok-Some.ensures.way c.in-Ok-Some.field-0-is told)
-    (carried g.V.Ground c.args.volume.now c.next_place.new.pages (λ y u. IsStepFault y u c.in-Ok-Some.place c.in-Err-collect_at.fault)
+    (carried g.V.Ground c.args.volume.now c.next_place.new.pages (λ y u. IsStepFault y u (LacksRecord y u c.places.after c.in-Ok-Some.place) c.in-Ok-Some.place c.in-Err-collect_at.fault)
     (keeps_on g.V.Ground c.args.volume.now c.places.volume c.next_place.new.pages c.places.invariant.kept c.next_place.ensures.kept) c.in-Err-collect_at.ensures.fault told)
 
 pub returns-in-Ok-None-clause-walk : goal.returns-in-Ok-None-clause-walk

@@ -1,23 +1,28 @@
 use Rattle.std.proofs.lemmas.Bool.{false≢true}
-use Rattle.std.proofs.Common.{◌≡◌, ◌≢◌, ℕ, true, false, length, subst, sym, ap, ◌∙◌, arith, inl, inr}
+use Rattle.std.proofs.Common.{◌≡◌, ◌≢◌, ℕ, List, None, true, false, length, subst, sym, ap, ◌∙◌, arith, inl, inr}
 use Rattle.ex_base.specs.declared.geometry.Geometry.{Geometry}
 use Rattle.ex_base.specs.declared.names.Area.{Area}
 use Rattle.object_records.specs.Record.{Content, Small, Large}
+use Rattle.ex_base.specs.Ports.{IsDamage}
+use Rattle.ex_base.specs.declared.names.Index.{Index}
+use Rattle.object_records.specs.declared.State.TheVariants.{Current}
+use Rattle.object_records.specs.Reads.{large_record}
 use Rattle.object_records.specs.declared.Head.{Head}
 use Rattle.std.proofs.lemmas.Result.{on_ok_weaker, IfOk-weaker, IfErr-weaker}
 use Rattle.ex_base.proofs.Options.{at_some}
 use Rattle.file_bodies.proofs.Belonging.{file_of_body}
 use Rattle.versions.specs.declared.editing.Edited.{Edited}
 use Rattle.versions.specs.declared.finding.Found.{Found}
-use Rattle.versions.specs.Versions.{HasVersion, StaysSmall, InRange, changed, count_of, place_of}
+use Rattle.versions.specs.Versions.{AreInUse, HasRecord, HasVersion, StaysSmall, root_of, InRange, changed, count_of, place_of}
 use Rattle.ex_base.specs.Needs.{growth_need}
 use Rattle.ex_base.proofs.Results.{if_err_handed, on_ok_both}
 use Rattle.versions.specs.Needs.{most_need, height_in}
-use Rattle.versions.specs.Edited.{change_of, TurnsVersion}
-use Rattle.versions.specs.Damage.{record_fault, looking, small, large, unlike}
-use Rattle.versions.proofs.Faults.{root_at, bytes_kept, version_kept}
-use Rattle.versions.proofs.Results.{none_some, same_some, ok_of}
-use Rattle.versions.proofs.Standing.{version_readable, holds_of, head_told, kept_version, small_content, large_content}
+use Rattle.versions.specs.Edited.{HasNeed, change_of, held_in, TurnsVersion}
+use Rattle.versions.specs.Damage.{record_fault, looking, not_asked, in_file, small, large}
+use Rattle.versions.proofs.Faults.{root_at, bytes_as, bytes_kept, small_kept}
+use Rattle.versions.proofs.There.{as_large, has_small, held_size, small_at}
+use Rattle.versions.proofs.Results.{if_err_both, none_some, same_some, ok_of}
+use Rattle.versions.proofs.Standing.{version_readable, holds_of, head_told, kept_record, kept_version, small_content, large_content}
 use Rattle.versions.proofs.Needed.{same_length, grows, edit_need_is, enough_kept, takes_kept}
 use Rattle.versions.proofs.Becoming.{kept_turned, kept_in_use, kept_stays, less_stays}
 use Rattle.ex_base.proofs.Handed.{no_value, not_given, cause_here, any_value, cause_of}
@@ -252,20 +257,49 @@ pub returns-in_err-told-clause-fault : goal.returns-in_err-told-clause-fault
 returns-in_err-told-clause-fault g c = if_err_handed c.from_residual.result _ _ c.from_residual.ensures.1 (λ told. looking (c.in_err-told.ensures.fault told))
 
 pub returns-in_err-found-clause-fault : goal.returns-in_err-found-clause-fault
-returns-in_err-found-clause-fault g c = if_err_handed c.from_residual-in_err-found.result _ _ c.from_residual-in_err-found.ensures.1 (λ told. small (unlike (c.in_err-found.ensures.fault.1 ∙ ap record_fault c.place_of-place.ensures)))
+returns-in_err-found-clause-fault g c = if_err_handed c.from_residual-in_err-found.result _ _ c.from_residual-in_err-found.ensures.1 (λ told. not_asked
+    (λ e. none_some c.in_ok-told.told _ c.in_err-found.ensures.fault.0 (c.in_ok-told.ensures.told told e.index _ e.has)) (c.in_err-found.ensures.fault.1 ∙ ap record_fault c.place_of-place.ensures))
 
 pub returns-in_err-check-clause-fault : goal.returns-in_err-check-clause-fault
-returns-in_err-check-clause-fault g c = if_err_handed c.from_residual-in_err-check.result _ _ c.from_residual-in_err-check.ensures.1 (λ told. small (unlike (c.in_err-check.ensures.fault.1 ∙ ap record_fault c.place_of-place.ensures)))
+returns-in_err-check-clause-fault g c = if_err_handed c.from_residual-in_err-check.result _ _ c.from_residual-in_err-check.ensures.1 (λ told. not_asked
+    (λ e.
+    let f_is = same_some c.in_ok-told.told c.in_ok-found.found _ c.in_ok-found.ensures.some (c.in_ok-told.ensures.told told e.index _ e.has) in
+    let yes : c.is_editable.result ≡ true = c.is_editable.ensures.1 (ap (λ (f : Found). f.head.state) f_is ∙ e.current, subst (InRange (change_of c.args.edit.now)) (sym (ap (λ (f : Found). f.size) f_is)) e.range) in
+    let isnt : c.is_editable.result ≡ false = c.in_err-check.ensures.fault.0 in
+    false≢true (sym isnt ∙ yes)) (c.in_err-check.ensures.fault.1 ∙ ap record_fault c.place_of-place.ensures))
 
 pub returns-in-None-clause-fault : goal.returns-in-None-clause-fault
-returns-in-None-clause-fault g c = IfErr-weaker c.edit_small.result _ _ (λ fault h told.
-    version_kept g.V.Ground c.args.volume.now c.find.new.volume c.find.ensures.kept c.args.oid.now fault h told) c.edit_small.ensures.fault
+returns-in-None-clause-fault g c = if_err_both c.edit_small.result _
+    (λ fault. IsDamage fault → g.V.Ground.tells c.args.volume.now → AreInUse g.V.Ground c.args.volume.now → (index : Index) (head : Head) (content : Content) (bytes : List ℕ)
+    → HasVersion g.V.Ground c.args.volume.now index c.args.oid.now head content bytes → head.state ≡ Current → InRange (change_of c.args.edit.now) (length bytes)
+    → HasNeed g.V.Ground c.args.volume.now (place_of c.args.oid.now) content (change_of c.args.edit.now) (length (changed (change_of c.args.edit.now) bytes)) → ⊥) _ (λ fault h never told.
+    let at = at_some c.in_ok-told.told c.in_ok-found.found _ c.in_ok-found.ensures.some c.in_ok-told.ensures.reads told in
+    elim (small_kept g.V.Ground c.args.volume.now c.find.new.volume c.find.ensures.kept c.args.oid.now fault h told) [
+      | inl is ↦ looking (in_file is)
+      | inr is ↦ small (small_at _ _ _ _ at c.in-None.is) (bytes_as _ _ _ _ _ _ fault (λ damage any e.
+          let f_is = same_some c.in_ok-told.told c.in_ok-found.found _ c.in_ok-found.ensures.some (c.in_ok-told.ensures.told told e.index _ e.has) in
+          let none : root_of e.is.content ≡ None = sym (ap (λ (f : Found). f.root) f_is) ∙ c.in-None.is in
+          never damage told e.in_use e.index e.is.head e.is.content (held_in e.is.content) (has_small g.V.Ground c.args.volume.now e.index c.args.oid.now e.is.head e.is.content none e.has) e.current
+          (subst (InRange (change_of c.args.edit.now)) (held_size e.is.content none) e.range) e.need) is)
+    ]) c.edit_small.ensures.fault (returns-in-None-clause-sound g c)
 
 pub returns-in-Some-clause-fault : goal.returns-in-Some-clause-fault
 returns-in-Some-clause-fault g c = IfErr-weaker c.edit_large.result _ _ (λ fault h told.
     let at = at_some c.in_ok-told.told c.in_ok-found.found _ c.in_ok-found.ensures.some c.in_ok-told.ensures.reads told in
     large c.in-Some.root (root_at (g.V.Ground.geometry c.args.volume.now) (g.V.Ground.image c.args.volume.now) c.args.oid.now c.in_ok-found.found c.in-Some.root at c.in-Some.is)
-    (bytes_kept g.V.Ground c.args.volume.now c.find.new.volume c.find.ensures.kept c.args.oid.now c.in-Some.root fault h told)) c.edit_large.ensures.fault
+    (bytes_as _ _ _ _ _ _ fault (λ damage never e.
+    let kept = c.find.ensures.kept in
+    let f_is = same_some c.in_ok-told.told c.in_ok-found.found _ c.in_ok-found.ensures.some (c.in_ok-told.ensures.told told e.index _ e.has) in
+    let is_large : e.is.content ≡ Large c.in-Some.root = large_content e.is.content c.in-Some.root (sym (ap (λ (f : Found). f.root) f_is) ∙ c.in-Some.is) in
+    let same : e.is ≡ large_record c.in_ok-found.found.head c.in-Some.root = as_large e.is c.in_ok-found.found.head c.in-Some.root (ap (λ (f : Found). f.head) f_is) is_large in
+    let some : count_of (change_of c.args.edit.now) ≢ 0 = λ none. absurd (omega (arith, none, c.count.ensures, c.if-count-eq0.false)) in
+    let geo = g.V.Ground.leads_geometry c.args.volume.now c.find.new.volume kept.leads in
+    never (kept_in_use g.V.Ground c.args.volume.now c.find.new.volume kept e.in_use) e.index
+    (kept_record g.V.Ground c.args.volume.now c.find.new.volume e.index c.args.oid.now _ kept (subst (HasRecord g.V.Ground c.args.volume.now e.index c.args.oid.now) same e.has)) (λ area.
+    let enough = e.need (λ stays. subst (λ (t : Content). StaysSmall g.V.Ground c.args.volume.now (place_of c.args.oid.now) t (length (changed (change_of c.args.edit.now) (held_in e.is.content)))) is_large stays) area in
+    let asked = edit_need_is (g.V.Ground.geometry c.args.volume.now) (change_of c.args.edit.now) e.is.content area some ∙ ap (λ (t : Content). most_need (g.V.Ground.geometry c.args.volume.now) (change_of c.args.edit.now) (height_in t) area) is_large in
+    enough_kept _ _ _ _ _ enough (ap (λ (f : Area → ℕ). f area) kept.free) (ap (λ (y : Geometry). most_need y (change_of c.args.edit.now) c.in-Some.root.height area) geo) asked))
+    (bytes_kept g.V.Ground c.args.volume.now c.find.new.volume c.find.ensures.kept c.args.oid.now c.in-Some.root _ fault h told))) c.edit_large.ensures.fault
 
 pub returns-in_err-told-clause-stands : goal.returns-in_err-told-clause-stands
 returns-in_err-told-clause-stands g c = not_given c.from_residual.result _ c.in_err-told.field-0.0 c.from_residual.ensures.1

@@ -1,4 +1,4 @@
-use Rattle.std.proofs.Common.{◌≡◌, ◌≤◌, ◌+◌, ℕ, List, length, refl, subst, sym, ap, ◌∙◌, arith}
+use Rattle.std.proofs.Common.{◌≡◌, ◌≤◌, ◌+◌, ℕ, List, inr, length, refl, subst, sym, ap, ◌∙◌, arith}
 use Rattle.std.proofs.lemmas.Result.{IfErr-weaker, IfOk-weaker, on_ok_weaker}
 use Rattle.ex_base.specs.declared.geometry.Geometry.{Geometry}
 use Rattle.ex_base.specs.declared.names.Area.{Area}
@@ -9,8 +9,8 @@ use Rattle.versions.specs.Versions.{StaysSmall, changed, place_of}
 use Rattle.ex_base.specs.Needs.{growth_need}
 use Rattle.ex_base.specs.Sizes.{object_most}
 use Rattle.versions.specs.Edited.{change_of, TurnsVersion}
-use Rattle.versions.specs.Damage.{no_tree, small}
-use Rattle.versions.proofs.Faults.{bytes_kept, step_version}
+use Rattle.versions.specs.Damage.{no_tree}
+use Rattle.versions.proofs.Faults.{bytes_kept, step_bytes}
 use Rattle.versions.proofs.Standing.{kept_version}
 use Rattle.versions.proofs.Becoming.{kept_turned, kept_in_use, kept_stays}
 use Rattle.ex_base.proofs.Handed.{cause_of}
@@ -82,11 +82,11 @@ returns-in-Err-clause-sound g c = λ damage told in_use index bytes has long nee
 
 pub returns-in-Ok-clause-fault : goal.returns-in-Ok-clause-fault
 returns-in-Ok-clause-fault g c = IfErr-weaker c.put_edited.result _ _ (λ fault h told.
-    small (bytes_kept g.V.Ground c.args.volume.now c.edited_small.new.volume c.edited_small.ensures.kept c.args.oid.now no_tree fault h told)) c.put_edited.ensures.fault
+    inr (bytes_kept g.V.Ground c.args.volume.now c.edited_small.new.volume c.edited_small.ensures.kept c.args.oid.now no_tree _ fault h told)) c.put_edited.ensures.fault
 
 pub returns-in-Err-clause-fault : goal.returns-in-Err-clause-fault
 returns-in-Err-clause-fault g c = λ told.
-    step_version (g.V.Ground.geometry c.args.volume.now) (g.V.Ground.unit c.args.volume.now) (g.V.Ground.image c.args.volume.now) c.place_of.result c.args.oid.now c.in-Err.fault c.place_of.ensures (c.in-Err.ensures.fault told)
+    step_bytes (g.V.Ground.geometry c.args.volume.now) (g.V.Ground.unit c.args.volume.now) (g.V.Ground.image c.args.volume.now) c.place_of.result c.args.oid.now c.in-Err.fault c.place_of.ensures (c.in-Err.ensures.fault told)
 
 pub returns-in-Err-clause-size : goal.returns-in-Err-clause-size
 returns-in-Err-clause-size g c = tt

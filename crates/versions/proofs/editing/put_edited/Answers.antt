@@ -72,11 +72,11 @@ returns-in-Err-clause-fault g c = λ told.
     place_bytes (g.V.Ground.geometry c.args.volume.now) (g.V.Ground.unit c.args.volume.now) (g.V.Ground.held c.args.volume.now) (g.V.Ground.image c.args.volume.now c.place_of.result.page.0) c.place_of.result c.args.oid.now no_tree c.in-Err.fault c.place_of.ensures (c.in-Err.ensures.fault told)
 
 pub returns-in_err-check-clause-fault : goal.returns-in_err-check-clause-fault
-returns-in_err-check-clause-fault g c = if_err_handed c.from_residual.result _ _ c.from_residual.ensures.1 (λ told. unlike (c.in_err-check.ensures.fault.1 ∙ ap record_fault c.place_of-2.ensures))
+returns-in_err-check-clause-fault g c = if_err_handed c.from_residual.result _ _ c.from_residual.ensures.1 (λ told. unlike tt (c.in_err-check.ensures.fault.1 ∙ ap record_fault c.place_of-2.ensures))
 
 pub returns-clause-fault : goal.returns-clause-fault
 returns-clause-fault g c = IfErr-weaker c.convert.result _ _ (λ fault h told.
-    bytes_kept g.V.Ground c.args.volume.now c.put_small.new.volume (c.in-Ok-false.ensures.kept c.in-Ok-false.field-0-test) c.args.oid.now no_tree fault h told) c.convert.ensures.fault
+    bytes_kept g.V.Ground c.args.volume.now c.put_small.new.volume (c.in-Ok-false.ensures.kept c.in-Ok-false.field-0-test) c.args.oid.now no_tree _ fault h told) c.convert.ensures.fault
 
 pub returns-in_err-check-clause-small : goal.returns-in_err-check-clause-small
 returns-in_err-check-clause-small g c = not_given c.from_residual.result _ c.in_err-check.field-0.0 c.from_residual.ensures.1

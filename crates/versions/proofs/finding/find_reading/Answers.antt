@@ -1,15 +1,16 @@
-use Rattle.std.proofs.Common.{ℕ, List, Some, refl, subst, sym}
+use Rattle.std.proofs.Common.{◌∙◌, ℕ, List, Some, refl, subst, sym}
 use Rattle.ex_base.specs.declared.names.Place.{Place}
 use Rattle.file_bodies.specs.Files.{HasFileOf, HasBody, HasSomeBody}
 use Rattle.ex_base.specs.declared.geometry.Geometry.{Geometry}
 use Rattle.ex_base.proofs.Results.{if_ok_both}
-use Rattle.file_bodies.specs.Damage.{IsBelonging, IsBelongingFault}
+use Rattle.file_bodies.specs.Damage.{IsBelonging, IsBelongingFault, IsFoundIn}
 use Rattle.std.proofs.lemmas.Result.{IfOk-weaker, IfErr-weaker}
-use Rattle.ex_base.proofs.Options.{at_some}
+use Rattle.ex_base.proofs.Options.{at_none, at_some}
+use Rattle.std.proofs.lemmas.Option.{same_Some}
 use Rattle.versions.specs.Found.{IsTold, IsRecordBody}
 use Rattle.versions.specs.Damage.{StandsOn, IsBodyFault, in_file, at_place}
 use Rattle.ex_base.proofs.Options.{if_some_both, some_both}
-use Rattle.versions.proofs.Results.{same_some, match_some, match_none, ok_of}
+use Rattle.versions.proofs.Results.{same_some, match_some, match_none, none_then, ok_of}
 use Rattle.object_records.specs.Record.{BodyOf}
 use Rattle.object_records.specs.Reads.{small_record}
 use Rattle.versions.proofs.Standing.{found_is, told_size, file_at, one_body, small_version}
@@ -173,3 +174,18 @@ returns-in-Ok-Some-clause-stands g c = IfOk-weaker c.told_reading.result _ _ (λ
       is = is.is;
       has = record { body = c.in-Ok-Some.body.now; stands = stands.has; spelled = is.spelled; number = is.number };
     }) some) c.told_reading.ensures.some
+
+pub returns-in-Err-clause-none : goal.returns-in-Err-clause-none
+returns-in-Err-clause-none g c = tt
+
+pub returns-in-Ok-None-clause-none : goal.returns-in-Ok-None-clause-none
+returns-in-Ok-None-clause-none g c = λ told there. at_none c.in-Ok-None.field-0 _ c.in-Ok-None.field-0-is c.in-Ok-None.ensures.none told
+    (subst (λ (p : Place). IsFoundIn (g.V.Ground.geometry c.args.volume.now) (g.V.Ground.image c.args.volume.now) p.page) (sym c.place_of.ensures) there.page)
+    there.version.at.body (subst (λ (p : Place). StandsOn (g.V.Ground.image c.args.volume.now) p there.version.at.body) (sym c.place_of.ensures) there.version.at.stands)
+
+pub returns-in-Ok-Some-clause-none : goal.returns-in-Ok-Some-clause-none
+returns-in-Ok-Some-clause-none g c = IfOk-weaker c.told_reading.result _ _ (λ found none. none_then found _ _ (λ never told there.
+    let at = there.version.at in
+    let stands : StandsOn (g.V.Ground.image c.args.volume.now) (place_of c.args.oid.now) c.in-Ok-Some.body.now =
+    subst (λ (p : Place). StandsOn (g.V.Ground.image c.args.volume.now) p c.in-Ok-Some.body.now) c.place_of.ensures (at_some c.in-Ok-Some.field-0 c.in-Ok-Some.body _ c.in-Ok-Some.field-0-is (c.in-Ok-Some.ensures.stands told)) in
+    never at.told.is (subst (λ (t : List ℕ). BodyOf t at.told.is) (same_Some _ _ (sym at.stands ∙ stands)) at.told.spelled) at.told.number) none) c.told_reading.ensures.none

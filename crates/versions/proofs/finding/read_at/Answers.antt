@@ -2,12 +2,14 @@ use Rattle.std.proofs.lemmas.Bool.{false≢true}
 use Rattle.std.proofs.Common.{◌≡◌, ◌+◌, ◌≤◌, length, true, false, ap, ◌∙◌, arith, subst, sym}
 use Rattle.std.proofs.lemmas.Result.{IfErr-weaker, on_ok_weaker}
 use Rattle.ex_base.specs.Bytes.{bytes_at}
-use Rattle.ex_base.proofs.Options.{at_some}
+use Rattle.ex_base.proofs.Options.{at_none, at_some}
+use Rattle.versions.proofs.There.{found_one, there_any}
+use Rattle.versions.specs.declared.finding.Found.{Found}
 use Rattle.ex_base.proofs.Results.{if_err_handed}
 use Rattle.object_records.specs.Record.{Large}
 use Rattle.versions.specs.Versions.{place_of}
 use Rattle.file_bodies.proofs.Belonging.{file_of_body}
-use Rattle.versions.specs.Damage.{record_fault, looking, small, large, unlike, in_tree}
+use Rattle.versions.specs.Damage.{record_fault, looking, not_asked, large, in_tree}
 use Rattle.versions.proofs.Faults.{root_at, tree_kept, way_kept}
 use Rattle.versions.proofs.Results.{at_nothing, at_this, none_some, same_some, ok_of}
 use Rattle.versions.proofs.Standing.{version_readable, version_whole, kept_holds, large_version}
@@ -15,6 +17,7 @@ use Rattle.ex_base.proofs.Handed.{not_given, cause_here, cause_of}
 use Rattle.ex_base.proofs.Keeping.{keeps_on}
 use Rattle.ex_base.specs.declared.geometry.Geometry.{Geometry}
 use Rattle.trees.specs.Roots.{IsRootFor}
+use Rattle.trees.proofs.ReadFaults.{root_read_walks}
 use Rattle.versions.proofs.finding.read_at.Goals as goal
 
 pub returns-in_err-found-clause-sound : goal.returns-in_err-found-clause-sound
@@ -61,16 +64,27 @@ pub returns-in_err-told-clause-fault : goal.returns-in_err-told-clause-fault
 returns-in_err-told-clause-fault g c = if_err_handed c.from_residual.result _ _ c.from_residual.ensures.1 (λ told. looking (c.in_err-told.ensures.fault told))
 
 pub returns-in_err-found-clause-fault : goal.returns-in_err-found-clause-fault
-returns-in_err-found-clause-fault g c = if_err_handed c.from_residual-in_err-found.result _ _ c.from_residual-in_err-found.ensures.1 (λ told. small (unlike (c.in_err-found.ensures.fault.1 ∙ ap record_fault c.place_of-place.ensures)))
+returns-in_err-found-clause-fault g c = if_err_handed c.from_residual-in_err-found.result _ _ c.from_residual-in_err-found.ensures.1 (λ told. not_asked
+    (λ there. at_none c.in_ok-told.told _ c.in_err-found.ensures.fault.0 c.in_ok-told.ensures.none told (there_any _ _ _ _ there))
+    (c.in_err-found.ensures.fault.1 ∙ ap record_fault c.place_of-place.ensures))
 
 pub returns-in_err-check-clause-fault : goal.returns-in_err-check-clause-fault
-returns-in_err-check-clause-fault g c = if_err_handed c.from_residual-in_err-check.result _ _ c.from_residual-in_err-check.ensures.1 (λ told. small (unlike (c.in_err-check.ensures.fault.1 ∙ ap record_fault c.place_of-place.ensures)))
+returns-in_err-check-clause-fault g c = if_err_handed c.from_residual-in_err-check.result _ _ c.from_residual-in_err-check.ensures.1 (λ told. not_asked
+    (λ there.
+    let at = at_some c.in_ok-told.told c.in_ok-found.found _ c.in_ok-found.ensures.some c.in_ok-told.ensures.reads told in
+    let same : c.in_ok-found.found ≡ there.version.found = found_one _ _ _ _ _ at there.version.at in
+    let len : length c.find_reading.new.out ≡ length c.args.out.now = c.in_ok-told.ensures.len in
+    let yes : c.is_inside.result ≡ true = c.is_inside.ensures.1 (omega (arith, len, there.version.holds, ap (λ (f : Found). f.size) same)) in
+    let isnt : c.is_inside.result ≡ false = c.in_err-check.ensures.fault.0 in
+    false≢true (sym isnt ∙ yes))
+    (c.in_err-check.ensures.fault.1 ∙ ap record_fault c.place_of-place.ensures))
 
 pub returns-in-Some-clause-fault : goal.returns-in-Some-clause-fault
 returns-in-Some-clause-fault g c = IfErr-weaker c.read.result _ _ (λ fault h told.
     let at = at_some c.in_ok-told.told c.in_ok-found.found _ c.in_ok-found.ensures.some c.in_ok-told.ensures.reads told in
     large c.in-Some.root (root_at (g.V.Ground.geometry c.args.volume.now) (g.V.Ground.image c.args.volume.now) c.args.oid.now c.in_ok-found.found c.in-Some.root at c.in-Some.is)
-    (in_tree (tree_kept g.V.Ground c.args.volume.now c.find_reading.new.volume c.find_reading.ensures.kept c.in-Some.root fault h told))) c.read.ensures.fault
+    (in_tree (tree_kept g.V.Ground c.args.volume.now c.find_reading.new.volume c.find_reading.ensures.kept c.in-Some.root fault
+    (λ told_b. root_read_walks _ _ c.in-Some.root _ _ fault (h told_b)) told))) c.read.ensures.fault
 
 -- ---- what was read
 

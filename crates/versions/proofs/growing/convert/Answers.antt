@@ -38,14 +38,14 @@ returns-in_err-put_root-clause-sound g c = if_err_handed c.from_residual-in_err-
     (c.in_err-put_root.ensures.sound damage (g.V.Ground.leads_told c.args.volume.now c.append.new.blocks c.append.ensures.leads told)))
 
 pub returns-in_err-check-clause-fault : goal.returns-in_err-check-clause-fault
-returns-in_err-check-clause-fault g c = if_err_handed c.from_residual.result _ _ c.from_residual.ensures.1 (λ told. unlike (c.in_err-check.ensures.fault.1 ∙ ap record_fault c.place_of-place.ensures))
+returns-in_err-check-clause-fault g c = if_err_handed c.from_residual.result _ _ c.from_residual.ensures.1 (λ told. unlike tt (c.in_err-check.ensures.fault.1 ∙ ap record_fault c.place_of-place.ensures))
 
 pub returns-in_err-made-clause-fault : goal.returns-in_err-made-clause-fault
 returns-in_err-made-clause-fault g c = if_err_handed c.from_residual-in_err-made.result _ _ c.from_residual-in_err-made.ensures.1 (λ told. in_tree (c.in_err-made.ensures.fault told))
 
 pub returns-in_err-put_root-clause-fault : goal.returns-in_err-put_root-clause-fault
 returns-in_err-put_root-clause-fault g c = if_err_handed c.from_residual-in_err-put_root.result _ _ c.from_residual-in_err-put_root.ensures.1 (λ told.
-    put_later g.V.Ground c.args.volume.now c.append.new.blocks c.place_of-place.result c.args.oid.now c.in_ok-made.made no_tree _ c.append.ensures.leads c.place_of-place.ensures c.in_err-put_root.ensures.fault told)
+    put_later g.V.Ground c.args.volume.now c.append.new.blocks c.place_of-place.result c.args.oid.now c.in_ok-made.made no_tree _ _ c.append.ensures.leads c.place_of-place.ensures (λ never. tt) c.in_err-put_root.ensures.fault told)
 
 pub returns-in_err-check-clause-free : goal.returns-in_err-check-clause-free
 returns-in_err-check-clause-free g c = not_given c.from_residual.result _ c.in_err-check.field-0.0 c.from_residual.ensures.1

@@ -6,7 +6,7 @@ use Rattle.versions.proofs.Roots.{root_length}
 use Rattle.versions.proofs.Standing.{version_whole, holds_of}
 use Rattle.versions.specs.Damage.{record_fault, in_tree, unlike}
 use Rattle.versions.proofs.Faults.{put_later}
-use Rattle.versions.proofs.Becoming.{becomes_large, never_put, used_units}
+use Rattle.versions.proofs.Becoming.{becomes_large, never_put, never_stood, used_units}
 use Rattle.ex_base.proofs.Handed.{no_value, not_given, cause_here, handed_after}
 use Rattle.ex_base.specs.declared.names.Area.{Area}
 use Rattle.versions.proofs.growing.edit_large.Goals as goal
@@ -36,14 +36,17 @@ returns-in_err-put_root-clause-sound g c = if_err_handed c.from_residual-in_err-
     (c.in_err-put_root.ensures.sound damage (g.V.Ground.leads_told c.args.volume.now c.edit_tree.new.volume c.edit_tree.ensures.leads told)))
 
 pub returns-in_err-check-clause-fault : goal.returns-in_err-check-clause-fault
-returns-in_err-check-clause-fault g c = if_err_handed c.from_residual.result _ _ c.from_residual.ensures.1 (λ told. unlike (c.in_err-check.ensures.fault.1 ∙ ap record_fault c.place_of-place.ensures))
+returns-in_err-check-clause-fault g c = if_err_handed c.from_residual.result _ _ c.from_residual.ensures.1 (λ told.
+    unlike (λ in_use index has units. c.has_units.ensures.never c.in_err-check.ensures.fault.0 units) (c.in_err-check.ensures.fault.1 ∙ ap record_fault c.place_of-place.ensures))
 
 pub returns-in_err-made-clause-fault : goal.returns-in_err-made-clause-fault
 returns-in_err-made-clause-fault g c = if_err_handed c.from_residual-in_err-made.result _ _ c.from_residual-in_err-made.ensures.1 (λ told. in_tree (c.in_err-made.ensures.fault told))
 
 pub returns-in_err-put_root-clause-fault : goal.returns-in_err-put_root-clause-fault
 returns-in_err-put_root-clause-fault g c = if_err_handed c.from_residual-in_err-put_root.result _ _ c.from_residual-in_err-put_root.ensures.1 (λ told.
-    put_later g.V.Ground c.args.volume.now c.edit_tree.new.volume c.place_of-place.result c.args.oid.now c.in_ok-made.made c.args.root.now _ c.edit_tree.ensures.leads c.place_of-place.ensures c.in_err-put_root.ensures.fault told)
+    put_later g.V.Ground c.args.volume.now c.edit_tree.new.volume c.place_of-place.result c.args.oid.now c.in_ok-made.made c.args.root.now _ _ c.edit_tree.ensures.leads c.place_of-place.ensures
+    (λ never in_use index has units. never_stood g.V.Ground c.args.volume.now c.edit_tree.new.volume index c.args.oid.now _ c.place_of-place.result c.in_ok-made.ensures.extends in_use has c.place_of-place.ensures never)
+    c.in_err-put_root.ensures.fault told)
 
 pub returns-in_err-check-clause-free : goal.returns-in_err-check-clause-free
 returns-in_err-check-clause-free g c = not_given c.from_residual.result _ c.in_err-check.field-0.0 c.from_residual.ensures.1

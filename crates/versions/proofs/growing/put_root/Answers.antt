@@ -21,10 +21,11 @@ returns-in_err-check_root-clause-fault g c = if_err_handed c.from_residual.resul
     no_limits (λ for. c.in_err-check_root.ensures.never (subst (λ (y : Geometry). IsRootFor y c.args.root.now) (sym c.geometry-geometry.ensures) for)) c.in_err-check_root.ensures.fault)
 
 pub returns-in_err-done-clause-fault : goal.returns-in_err-done-clause-fault
-returns-in_err-done-clause-fault g c = if_err_handed c.from_residual-in_err-done.result _ _ c.from_residual-in_err-done.ensures.1 (λ told. place_put (g.V.Ground.geometry c.args.volume.now) (g.V.Ground.held c.args.volume.now) (g.V.Ground.image c.args.volume.now c.args.place.page.0) c.args.place c.args.root.now _ (c.in_err-done.ensures.fault told))
+returns-in_err-done-clause-fault g c = if_err_handed c.from_residual-in_err-done.result _ _ c.from_residual-in_err-done.ensures.1 (λ told. place_put g.V.Ground c.args.volume.now c.args.place c.args.root.now _ (c.in_err-done.ensures.fault told) (λ damage. c.in_err-done.ensures.sound damage told))
 
 pub returns-clause-fault : goal.returns-clause-fault
-returns-clause-fault g c = IfErr-weaker c.check.result _ _ (λ fault h told. no_place h.1) c.check.ensures.fault
+returns-clause-fault g c = IfErr-weaker c.check.result _ _ (λ fault h told. no_place (λ index was has long.
+    false≢true (sym h.0 ∙ (c.in_ok-done.ensures.fits told index was has).1 (omega (arith, long)))) h.1) c.check.ensures.fault
 
 pub returns-clause-put : goal.returns-clause-put
 returns-clause-put g c = on_ok_weaker c.check.result (λ holds told index was has.

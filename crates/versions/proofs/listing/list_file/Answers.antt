@@ -11,7 +11,7 @@ use Rattle.file_bodies.specs.Places.{IsNext}
 use Rattle.file_index.specs.Damage.{every_page}
 use Rattle.file_bodies.specs.Damage.{HasListed, IsListedFault, IsLook, IsLookFault, page_from}
 use Rattle.file_bodies.proofs.Blame.{carried}
-use Rattle.versions.specs.Damage.{IsStepFault, on_to, stepping, walking}
+use Rattle.versions.specs.Damage.{IsStepFault, LacksRecord, on_to, stepping, walking}
 use Rattle.ex_base.proofs.Keeping.{keeps_on, cause_since}
 use Rattle.versions.proofs.RowsListed.{IsListed, gathers_oids}
 use Rattle.versions.proofs.Listed.{ListedTo, area, comes_next, listed_none, told_b, file_b, done, page_more, readable_here, rises, spelled, walked_out}
@@ -67,7 +67,7 @@ returns-in-Err-clause-fault g c = λ told. walking c.pages.after (c.pages.invari
 
 pub returns-in-Err-list_page-clause-fault : goal.returns-in-Err-list_page-clause-fault
 returns-in-Err-list_page-clause-fault g c = λ told.
-    let h = carried g.V.Ground c.args.volume.now c.next_place.new.pages (λ y u. (at : Place) × (at.page ≡ c.in-Ok-Some.place.page) × IsStepFault y u at c.in-Err-list_page.fault)
+    let h = carried g.V.Ground c.args.volume.now c.next_place.new.pages (λ y u. (at : Place) × (at.page ≡ c.in-Ok-Some.place.page) × IsStepFault y u (LacksRecord y u c.pages.after at) at c.in-Err-list_page.fault)
     (keeps_on g.V.Ground c.args.volume.now c.pages.volume c.next_place.new.pages c.pages.invariant.kept c.next_place.ensures.kept) c.in-Err-list_page.ensures.fault told in
     stepping c.pages.after h.0 (c.pages.invariant.walked told)
     (subst (λ (p : PageNo). HasListed (g.V.Ground.image c.args.volume.now) c.args.file_no (λ index. IsLook (g.V.Ground.geometry c.args.volume.now) (g.V.Ground.image c.args.volume.now) index (page_from c.pages.after) (Some p))) (sym h.1)

@@ -1,5 +1,6 @@
-use Rattle.std.proofs.Common.{◌++◌, List, ap, inl, inr, refl, subst, sym, ◌∙◌}
+use Rattle.std.proofs.Common.{◌≡◌, ◌++◌, List, Some, None, ap, inl, inr, refl, subst, sym, ◌∙◌}
 use Rattle.std.proofs.lemmas.Result.{IfErr-weaker, on_ok_weaker}
+use Rattle.std.specs.Prelude.{slice_index_or}
 use Rattle.slotted_pages.specs.FilePage.{Slot}
 use Rattle.slotted_pages.specs.Edits.{slots_of}
 use Rattle.file_bodies.specs.Bodies.{place_at}
@@ -21,7 +22,13 @@ returns-in-Some-clause-sound g c = IfErr-weaker c.list_slots.result _ _ (λ faul
 pub returns-in-Some-clause-fault : goal.returns-in-Some-clause-fault
 returns-in-Some-clause-fault g c = IfErr-weaker c.list_slots.result _ _ (λ fault h told. elim h [
   | inl never ↦ (c.args.place, refl, own never)
-  | inr lacks ↦ (place_at c.args.place.page.0 lacks.0, refl, unread lacks.1)
+  | inr lacks ↦ (
+    place_at c.args.place.page.0 lacks.0,
+    refl,
+    unread (λ le has. lacks.1 has.body
+        (subst (λ (slots : List Slot). slice_index_or slots lacks.0 None ≡ Some has.body) (sym (sym (slots_are c.in-Ok.bytes.now c.in-Some.view.page c.in-Some.ensures.found.1) ∙ ap slots_of (c.in-Ok.ensures.bytes told))) has.stands)
+        has.is has.spelled) lacks.2,
+  )
 ]) c.list_slots.ensures.fault
 
 pub returns-in-Some-clause-cause : goal.returns-in-Some-clause-cause
