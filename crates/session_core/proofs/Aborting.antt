@@ -170,6 +170,7 @@ module _ {a b : Outside} (s : SessionState) (world : IsWorld a) (is : IsSession 
         (subst (λ (t : SessionState). TakenBack t.meta.working t.kept t.pages pages given units) (sym from) back) (subst (λ (t : SessionState). volume_bytes t.geometry ≤ a.size) (sym from) room)
         (ap (λ (t : SessionState). t.opened) from ∙ opened) new (ap (λ (t : SessionState). aborted t pages units groups) from ∙ same);
     any_moment = λ before from now. quiet_moments request.Abort world gave.gives.only before now;
+    scans = ap (λ (t : SessionState). t.scans) (sym same);
   }
 
   pub abort_left : (given : UnitSet) (groups : List Frames) (pages : LoggedSet) (units : UnitSet) → s.opened ≡ true → GaveUp a b s s.groups s.gained given groups
@@ -193,6 +194,7 @@ module _ {a b : Outside} (s : SessionState) (world : IsWorld a) (is : IsSession 
     quiet = λ _. (reads, ap (λ (t : SessionState). t.log) same);
     stepped = λ before from now. tt;
     any_moment = λ before from now. quiet_moments request.Abort world reads before now;
+    scans = ap (λ (t : SessionState). t.scans) same;
   }
 
 -- ---- as the code comes to it

@@ -135,9 +135,9 @@ begin_steps {a} {b} {before} now new groups page same frames closed reads lends 
 pub later_of : {a b : Outside} (old mid : SessionState) → IsSession old → OnlyFrames a b old mid → LaterFrames a b old mid.groups
 later_of {a} {b} old mid is only = record { reads = only.reads; sizes = is.sizes; later = only.sizes old.geometry.page_size is.sizes; lends = only.lends }
 
-pub accepted_quietly : {a b : Outside} (old mid new : SessionState) (r : Request) (told : Reply) → OnlyFrames a b old mid → new.geometry ≡ mid.geometry → new.log ≡ mid.log → new.down ≡ mid.down
+pub accepted_quietly : {a b : Outside} (old mid new : SessionState) (r : Request) (told : Reply) → OnlyFrames a b old mid → new.geometry ≡ mid.geometry → new.log ≡ mid.log → new.down ≡ mid.down → new.scans ≡ mid.scans
     → ((why : Refusal) → told ≡ reply.No why → ⊥) → ((before : View SessionState) → before.session ≡ old → ShowsNow meant a before → Stepped meant before r told new b) → StepsQuietly a b old new r (Ok told)
-accepted_quietly old mid new r told only geometry log down accepts steps = record {
+accepted_quietly old mid new r told only geometry log down scans accepts steps = record {
   reads = only.reads;
   geometry = geometry ∙ ap (λ (s : SessionState). s.geometry) only.same;
   log = log ∙ ap (λ (s : SessionState). s.log) only.same;
@@ -145,12 +145,13 @@ accepted_quietly old mid new r told only geometry log down accepts steps = recor
   stops = tt;
   refused = λ (why, is). absurd (accepts why is);
   stepped = steps;
+  scans = scans ∙ ap (λ (s : SessionState). s.scans) only.same;
 }
 
 pub begin_quietly : {a b : Outside} (old mid new : SessionState) (page : List ℕ) (last : ℕ) → IsSession old → OnlyFrames a b old mid → old.opened ≡ false → old.down ≡ false → ReadsCatalog a old page → last ≡ (catalog_on page).last → (last ≢ 2 ^ 64 - 1)
     → begun mid page ≡ new → StepsQuietly a b old new request.Begin (Ok (reply.Begin (last + 1)))
 begin_quietly {a} {b} old mid new page last is only closed up reads number room same =
-    accepted_quietly old mid new request.Begin (reply.Begin (last + 1)) only (ap (λ (s : SessionState). s.geometry) (sym same)) (ap (λ (s : SessionState). s.log) (sym same)) (ap (λ (s : SessionState). s.down) (sym same) ∙ sym (ap (λ (s : SessionState). s.down) only.same ∙ up)) (λ why told. absurd (cc))
+    accepted_quietly old mid new request.Begin (reply.Begin (last + 1)) only (ap (λ (s : SessionState). s.geometry) (sym same)) (ap (λ (s : SessionState). s.log) (sym same)) (ap (λ (s : SessionState). s.down) (sym same) ∙ sym (ap (λ (s : SessionState). s.down) only.same ∙ up)) (ap (λ (s : SessionState). s.scans) (sym same)) (λ why told. absurd (cc))
     (λ before from now.
     let session = subst IsSession (sym from) is in
     let at = ap (λ (s : SessionState). begun s page) (ap (λ (s : SessionState). record s { groups = mid.groups }) from ∙ sym only.same) ∙ same in
@@ -196,6 +197,7 @@ commit_spent {a} {b} old mid page at want got world is only opened reads spent d
   quiet = λ _. (only.reads, ap (λ (s : SessionState). s.log) only.same);
   stepped = λ before from now. tt;
   any_moment = λ before from now. quiet_moments request.Commit world only.reads before now;
+  scans = ap (λ (s : SessionState). s.scans) only.same;
 }
 
 pub no_open_txn : {a : Outside} (s : SessionState) (r : Request) → IsSession s → s.opened ≡ false → ((m : Machine) (q : Pick) → is_some m.working ≡ false → refusal_of m r q ≡ Some refusal.NoTxn)

@@ -124,11 +124,12 @@ quiet_refusal {a} {b} {old} {new} r why only sizes refuses = record {
         shows = same_view before is now only sizes;
         step = refused before.machine r q why (reply.No why) before.machine (sym refuse) refl refl (subst (λ (o : Option Refusal). IfAccepted o (IsAllowed before.machine r q)) (sym refuse) tt);
       };
+  scans = ap (λ (s : SessionState). s.scans) only.same;
 }
 
 pub quiet_stop : {a b : Outside} {old new : SessionState} (r : Request) (why : Stop) → ReadsOnly a b → new.geometry ≡ old.geometry → new.log ≡ old.log → new.down ≡ old.down → Stops a b old why
-    → StepsQuietly a b old new r (Err why)
-quiet_stop r why reads geometry log down stops = record { reads = reads; geometry = geometry; log = log; down = down; stops = stops; refused = tt; stepped = λ before is now. tt }
+    → new.scans ≡ old.scans → StepsQuietly a b old new r (Err why)
+quiet_stop r why reads geometry log down stops scans = record { reads = reads; geometry = geometry; log = log; down = down; stops = stops; refused = tt; stepped = λ before is now. tt; scans = scans }
 
 pub nothing_changed : (a : Outside) (s : SessionState) → OnlyFrames a a s s
 nothing_changed a s = record { reads = reads_refl a; same = refl; lends = λ lends. lends; sizes = λ n sizes. sizes; kinds = refl }

@@ -74,6 +74,7 @@ quietly {a} {b} {old} r result world session quiet = record {
   quiet = λ _. (quiet.reads, quiet.log);
   stepped = quiet.stepped;
   any_moment = λ before same now. quiet_moments r world quiet.reads before now;
+  scans = quiet.scans;
 }
 
 -- ---- results that differ

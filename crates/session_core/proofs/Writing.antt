@@ -64,6 +64,7 @@ checkpoint_failed {a} {b} s old new log meta groups is went rose same = record {
   quiet = λ none. absurd (cc);
   stepped = λ before from now. tt;
   any_moment = λ before from now. checkpoint_moments now (subst (λ (t : SessionState). HomeMoments a b t.log t.meta) (is ∙ sym from) went.moments);
+  scans = ap (λ (t : SessionState). t.scans) (sym same) ∙ ap (λ (t : SessionState). t.scans) is;
 }
 
 pub checkpoint_done : {a b : Outside} (s old new : SessionState) (log : LogState) (meta : Overlays) (groups : List Frames) → s ≡ old → WentHome a b s log meta groups → GoesHome a b s.log s.meta log meta → home_session s log meta groups ≡ new
@@ -84,6 +85,7 @@ checkpoint_done {a} {b} s old new log meta groups is went home same = record {
       (record { sizes = sizes; lends = here.lends now.honest here.session.behind (shown_lends now here.session.sizes) }) new
       (ap (λ (t : SessionState). home_session t log meta groups) (sym e) ∙ same);
   any_moment = λ before from now. checkpoint_moments now (subst (λ (t : SessionState). HomeMoments a b t.log t.meta) (is ∙ sym from) went.moments);
+  scans = ap (λ (t : SessionState). t.scans) (sym same) ∙ ap (λ (t : SessionState). t.scans) is;
 }
 
 -- ---- commits
@@ -114,8 +116,8 @@ outside_of fault.Memory = tt
 outside_of fault.Disk = tt
 
 pub commit_stopped : {a m b : Outside} (s new : SessionState) (page image : List ℕ) (number : ℕ) (why : CommitFault) (stopped : Stop) → stopped ≡ stop_of why → IsWorld a → WasKept a m b s page image number
-    → (why ≡ fault.Disk → Rose m.disk_faults b.disk_faults) → new.geometry ≡ s.geometry → new.down ≡ s.down → Steps a b s new request.Commit (Err stopped)
-commit_stopped {a} {m} {b} s new page image number why stopped told world kept cause geometry down = record {
+    → (why ≡ fault.Disk → Rose m.disk_faults b.disk_faults) → new.geometry ≡ s.geometry → new.down ≡ s.down → new.scans ≡ s.scans → Steps a b s new request.Commit (Err stopped)
+commit_stopped {a} {m} {b} s new page image number why stopped told world kept cause geometry down scans = record {
   only = disk_trans kept.reads.nothing.only kept.only;
   geometry = geometry;
   down = down;
@@ -125,6 +127,7 @@ commit_stopped {a} {m} {b} s new page image number why stopped told world kept c
   quiet = λ none. absurd (cc);
   stepped = λ before from now. tt;
   any_moment = λ before from now. kept_moments page image number now world (subst (λ (t : SessionState). WasKept a m b t page image number) (sym from) kept);
+  scans = scans;
 }
   where
     caused : (why : CommitFault) → (why ≡ fault.Disk → Rose m.disk_faults b.disk_faults) → LineStops a b (stop_of why)
@@ -139,8 +142,8 @@ later_cause a i m (port.Damaged page want got) reads cause = cause
 
 -- the roots that the transaction lost could not be given up
 pub lost_stopped : {a i m : Outside} (s new : SessionState) (was : List Frames) (why : PortFault) (stopped : Stop) → stopped ≡ stop_at why → IsWorld a → IsSession s → ReadsOnly a i → (FramesLend a s → All (Lends a.disk) was) → ReadsOnly i m
-    → Cause i.disk_faults m.disk_faults why → (IsDamage why → OwnRoots s.pages s.kept s.geometry i was s.units s.lost → ⊥) → new.geometry ≡ s.geometry → new.down ≡ s.down → Steps a m s new request.Commit (Err stopped)
-lost_stopped {a} {i} {m} s new was why stopped told world is reads lends more cause never geometry down = record {
+    → Cause i.disk_faults m.disk_faults why → (IsDamage why → OwnRoots s.pages s.kept s.geometry i was s.units s.lost → ⊥) → new.geometry ≡ s.geometry → new.down ≡ s.down → new.scans ≡ s.scans → Steps a m s new request.Commit (Err stopped)
+lost_stopped {a} {i} {m} s new was why stopped told world is reads lends more cause never geometry down scans = record {
   only = (reads_trans reads more).nothing.only;
   geometry = geometry;
   down = down;
@@ -153,6 +156,7 @@ lost_stopped {a} {i} {m} s new was why stopped told world is reads lends more ca
   quiet = λ none. absurd (cc);
   stepped = λ before from now. tt;
   any_moment = λ before from now. quiet_moments request.Commit world (reads_trans reads more) before now;
+  scans = scans;
 }
 
 pub memory_fault : (why : CommitFault) → stop_of why ≡ stop.Memory → why ≡ fault.Memory
@@ -221,6 +225,7 @@ module _ {a i m b : Outside} (old : SessionState) (page image : List ℕ) (numbe
         made_steps page image number was groups later given units log meta flags now (subst (λ (t : SessionState). WasKept a m b t page image number) (sym from) kept)
         (subst (λ (t : SessionState). WasMade a i m b t image number was groups later given units log meta flags) (sym from) made) new (ap (λ (t : SessionState). committed_session t log meta later flags units) from ∙ same);
     any_moment = λ before from now. kept_moments page image number now world (subst (λ (t : SessionState). WasKept a m b t page image number) (sym from) kept);
+    scans = ap (λ (t : SessionState). t.scans) (sym same);
   }
 
   pub commit_logged : (before : View SessionState) → before.session ≡ old → (now : ShowsNow meant a before) → LogsCommit now.shows.decoded now.shows.working old b

@@ -41,7 +41,7 @@ is_quiet r = true
 abbrev pub IsQuiet : Request → Type 0
 IsQuiet r = IsTrue (is_quiet r)
 
--- A step that writes nothing, and leaves the log.
+-- A step that writes nothing, and leaves the log and the open scans.
 pub record StepsQuietly (a b : Outside) (old new : SessionState) (r : Request) (result : Result Reply Stop) : Type 0 where
   pub reads : ReadsOnly a b
   pub geometry : new.geometry ≡ old.geometry
@@ -50,8 +50,9 @@ pub record StepsQuietly (a b : Outside) (old new : SessionState) (r : Request) (
   pub stops : IfErr result (Stops a b old)
   pub refused : IfOk result (λ told. IsRefused told → OnlyFrames a b old new)
   pub stepped : (before : View SessionState) → before.session ≡ old → ShowsNow meant a before → IfOk result (λ told. Stepped meant before r told new b)
+  pub scans : new.scans ≡ old.scans
 
--- A step, from what stands outside before it to what stands there after it.
+-- A step, from what stands outside before it to what stands there after it. It leaves the open scans.
 pub record Steps (a b : Outside) (old new : SessionState) (r : Request) (result : Result Reply Stop) : Type 0 where
   pub only : DiskOnly a b
   pub geometry : new.geometry ≡ old.geometry
@@ -62,3 +63,4 @@ pub record Steps (a b : Outside) (old new : SessionState) (r : Request) (result 
   pub quiet : IsQuiet r → ReadsOnly a b × (new.log ≡ old.log)
   pub stepped : (before : View SessionState) → before.session ≡ old → ShowsNow meant a before → IfOk result (λ told. Stepped meant before r told new b)
   pub any_moment : (before : View SessionState) → before.session ≡ old → ShowsNow meant a before → Leaves a b (StandsDuring meant before.machine r)
+  pub scans : new.scans ≡ old.scans

@@ -197,7 +197,7 @@ pub file_quietly : {a b : Outside} (old mid new : SessionState) (page image name
     → file_refusal mid (catalog_on page) name ≡ None → CatalogOf image (edits.with_entries (catalog_on page) (edits.entry_inserted (edits.new_file name file_no) (catalog_on page).entries))
     → updated mid image note_kind.FileMade ≡ new → StepsQuietly a b old new (request.File name) (Ok (reply.File name))
 file_quietly {a} {b} old mid new page image name file_no is only opened reads form none catalog same =
-    accepted_quietly old mid new (request.File name) (reply.File name) only (ap (λ (s : SessionState). s.geometry) (sym same)) (ap (λ (s : SessionState). s.log) (sym same)) (ap (λ (s : SessionState). s.down) (sym same)) (λ why told. absurd (cc))
+    accepted_quietly old mid new (request.File name) (reply.File name) only (ap (λ (s : SessionState). s.geometry) (sym same)) (ap (λ (s : SessionState). s.log) (sym same)) (ap (λ (s : SessionState). s.down) (sym same)) (ap (λ (s : SessionState). s.scans) (sym same)) (λ why told. absurd (cc))
     (λ before from now.
     let session = subst IsSession (sym from) is in
     let at = ap (λ (s : SessionState). updated s image note_kind.FileMade) (ap (λ (s : SessionState). record s { groups = mid.groups }) from ∙ sym only.same) ∙ same in
@@ -248,7 +248,7 @@ pub unfile_quietly : {a b : Outside} (old mid new : SessionState) (page image na
     → unfile_refusal mid (catalog_on page) name ≡ None → CatalogOf image (edits.with_entries (catalog_on page) (edits.without_name name (catalog_on page).entries))
     → updated mid image note_kind.FileRemoved ≡ new → StepsQuietly a b old new (request.Unfile name) (Ok (reply.Unfile name))
 unfile_quietly {a} {b} old mid new page image name is only opened reads form none catalog same =
-    accepted_quietly old mid new (request.Unfile name) (reply.Unfile name) only (ap (λ (s : SessionState). s.geometry) (sym same)) (ap (λ (s : SessionState). s.log) (sym same)) (ap (λ (s : SessionState). s.down) (sym same)) (λ why told. absurd (cc))
+    accepted_quietly old mid new (request.Unfile name) (reply.Unfile name) only (ap (λ (s : SessionState). s.geometry) (sym same)) (ap (λ (s : SessionState). s.log) (sym same)) (ap (λ (s : SessionState). s.down) (sym same)) (ap (λ (s : SessionState). s.scans) (sym same)) (λ why told. absurd (cc))
     (λ before from now.
     let session = subst IsSession (sym from) is in
     let at = ap (λ (s : SessionState). updated s image note_kind.FileRemoved) (ap (λ (s : SessionState). record s { groups = mid.groups }) from ∙ sym only.same) ∙ same in
@@ -282,7 +282,7 @@ used_told {a} {before} now is =
 tells : {a b : Outside} (old new : SessionState) (r : Request) (told : Reply) → IsSession old → OnlyFrames a b old new → ((why : Refusal) → told ≡ reply.No why → ⊥)
     → ((before : View SessionState) → before.session ≡ old → ShowsNow meant a before → Step before.machine r (pick_of (held_view before) r (held_view (with_groups before new))) told before.machine) → StepsQuietly a b old new r (Ok told)
 tells {a} {b} old new r told is only accepts steps =
-    accepted_quietly old new new r told only refl refl refl accepts
+    accepted_quietly old new new r told only refl refl refl refl accepts
     (λ before from now. record { after = with_groups before new; is = refl; shows = same_view before from now only is.sizes; step = steps before from now })
 
 pub log_quietly : {a : Outside} (s : SessionState) → IsSession s → StepsQuietly a a s s request.Log (Ok (reply.Log s.log.count))

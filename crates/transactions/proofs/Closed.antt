@@ -1,5 +1,5 @@
 -- How a line that closes a scan is answered.
-use Rattle.std.proofs.Common.{◌≡◌, ◌∙◌, ℕ, zero, suc, ◌≤◌, Bool, true, false, cond, not, List, [], ◌∷◌, length, Option, Some, None, Ok, IsTrue, refl, sym, ap, subst, arith}
+use Rattle.std.proofs.Common.{◌≡◌, ◌∙◌, ℕ, zero, suc, ◌≤◌, Bool, true, false, cond, not, List, [], ◌∷◌, length, Option, Some, None, Ok, IsTrue, refl, sym, ap, subst, arith, inr}
 use Rattle.std.specs.Prelude.{bytes_eq, filter, is_none, slice_get}
 use Rattle.std.specs.List.{remove}
 use Rattle.std.specs.Option.{option_or}
@@ -132,6 +132,7 @@ close_done {a} {b} {old} {new} name index form is there reads gives closed shows
         shows = shows before same now (steps_keep m r q (reply.Close name) after now.shows.rules form step);
         step = step;
       };
+  scans = inr (record { index = index; named = there; rows = ap (λ (s : SessionState). s.scans) closed });
 }
   where
     geometry_stays : new.geometry ≡ old.geometry

@@ -20,6 +20,7 @@ use Rattle.op_log.specs.declared.record.LogRecord.{LogRecord}
 use Rattle.volume_model.specs.Durable.{IsDurable}
 use Rattle.session_core.proofs.Quiet.{quiet_moments}
 use Rattle.session_core.proofs.Stopping.{disk_or_memory, quietly}
+use Rattle.transactions.proofs.ScansLeft.{scans_stay}
 use Rattle.session_core.proofs.Undisturbed.{durable_unwritten, records_unwritten, writes_nowhere}
 
 -- ---- any command
@@ -39,6 +40,7 @@ of_step {a} {b} {old} {new} r s result is session catalog steps = subst (λ (t :
   reads = λ alone. (steps.quiet alone.0).0;
   stepped = steps.stepped;
   any_moment = steps.any_moment;
+  scans = scans_stay old.scans new.scans s steps.scans;
 })
 
 -- what stops for a fault of the disk alone blames no page
@@ -70,6 +72,7 @@ of_read {a} {b} {old} {new} r s result is asks world line = subst (λ (t : Reque
   reads = λ _. line.only.reads;
   stepped = each_view a b old new s result line.stepped;
   any_moment = λ before same now. quiet_moments s world line.only.reads before now;
+  scans = scans_stay old.scans new.scans s (ap (λ (t : SessionState). t.scans) line.only.same);
 })
   where
     any_of : (o : Result Reply Stop) → OnlyFrames a b old new → IfOk o (λ told. IsRefused told → OnlyFrames a b old new)
@@ -91,6 +94,7 @@ of_scans {a} {b} {old} {new} r s result is world catalog line = subst (λ (t : R
   reads = λ _. line.reads;
   stepped = each_view a b old new s result line.stepped;
   any_moment = λ before same now. quiet_moments s world line.reads before now;
+  scans = line.scans;
 })
 
 -- what asks more of the volume than its catalog
@@ -117,6 +121,7 @@ of_update {a} {b} {old} {new} r s result is changes asks line = subst (λ (t : R
   reads = λ alone. absurd (true≢false (sym changes ∙ alone.1));
   stepped = each_view a b old new s result line.stepped;
   any_moment = line.any_moment;
+  scans = scans_stay old.scans new.scans s line.scans;
 })
 
 -- ---- what the engine promises, from a step

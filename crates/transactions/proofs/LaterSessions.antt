@@ -9,6 +9,7 @@ use Rattle.session_core.specs.Finding.{IfShown, IsOutside, LineStops}
 use Rattle.transactions.specs.Lines.{ScansLine}
 use Rattle.session_core.specs.Sessions.{SessionState}
 use Rattle.session_core.specs.Steps.{OnlyFrames, StepsQuietly}
+use Rattle.transactions.proofs.ScansLeft.{scans_stay}
 
 module _ {a b : Outside} {old mid : SessionState} (only : OnlyFrames a b old mid) where
   pub has_room : volume_bytes old.geometry ≤ a.size → volume_bytes mid.geometry ≤ b.size
@@ -34,11 +35,12 @@ module _ {a b : Outside} {old mid : SessionState} (only : OnlyFrames a b old mid
     sound = sound;
     refused = tt;
     stepped = tt;
+    scans = scans_stay old.scans mid.scans r (ap (λ (s : SessionState). s.scans) only.same);
   }
 
   -- a line that wants memory, once it has changed the session alone
-  pub memory_stop : (new : SessionState) (r : Request) → new.geometry ≡ mid.geometry → new.log ≡ mid.log → new.down ≡ mid.down → StepsQuietly a b old new r (Err stop.Memory)
-  memory_stop new r geometry log down = record {
+  pub memory_stop : (new : SessionState) (r : Request) → new.geometry ≡ mid.geometry → new.log ≡ mid.log → new.down ≡ mid.down → new.scans ≡ mid.scans → StepsQuietly a b old new r (Err stop.Memory)
+  memory_stop new r geometry log down scans = record {
     reads = only.reads;
     geometry = geometry ∙ ap (λ (s : SessionState). s.geometry) only.same;
     log = log ∙ ap (λ (s : SessionState). s.log) only.same;
@@ -46,4 +48,5 @@ module _ {a b : Outside} {old mid : SessionState} (only : OnlyFrames a b old mid
     stops = tt;
     refused = tt;
     stepped = λ before same now. tt;
+    scans = scans ∙ ap (λ (s : SessionState). s.scans) only.same;
   }

@@ -22,6 +22,7 @@ mod StoppedSteps
 mod Relatives
 mod Removed
 mod ScanLines
+mod ScansLeft
 mod Shaping
 mod Unfiled
 mod Contents

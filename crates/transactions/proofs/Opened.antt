@@ -137,7 +137,7 @@ module _ {a mid : Outside} {old found : SessionState} (x : Reference) (name : Li
         geometry = ap (λ (s : SessionState). s.geometry) both.same;
         log = ap (λ (s : SessionState). s.log) both.same;
         down = ap (λ (s : SessionState). s.down) both.same;
-      }) stops sound
+      }) stops sound (ap (λ (s : SessionState). s.scans) both.same)
 
   pub scan_done : {b : Outside} (new : SessionState) (version : Named) (index : ℕ) → MayOpen found told name group version index → IsTrue (is_request r) → OpensScan mid b found new name version.found.root index
       → IfShown mid found (λ before. IfTold before version (λ bytes. ShowsThen before b new (with_scan name bytes before.machine))) → ScansLine a b old new r (Ok (reply.Scan name version.found.size))
@@ -168,6 +168,10 @@ module _ {a mid : Outside} {old found : SessionState} (x : Reference) (name : Li
           shows = shows view refl (same_view before same now only is.sizes) named.told (steps_keep m r q (reply.Scan name version.found.size) after now.shows.rules form step);
           step = step;
         };
+    scans = inr (record {
+      row = first_row name version.found.root small index;
+      rows = ap (λ (s : SessionState). s.scans) opened.same ∙ ap (λ (s : SessionState). s.scans ++ first_row name version.found.root small index ∷ []) only.same;
+    });
   }
 
   -- why the scan stops is told of the session that was found first

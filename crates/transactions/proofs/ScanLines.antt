@@ -1,5 +1,5 @@
 -- How lines on open scans and groups are answered.
-use Rattle.std.proofs.Common.{◌≡◌, ◌∙◌, ℕ, ◌<◌, ◌≤◌, Bool, true, false, List, [], ◌∷◌, length, Option, Some, None, Ok, Err, IsTrue, refl, sym, ap, subst}
+use Rattle.std.proofs.Common.{◌≡◌, ◌∙◌, ℕ, ◌<◌, ◌≤◌, Bool, true, false, List, [], ◌∷◌, length, Option, Some, None, Ok, Err, IsTrue, refl, sym, ap, subst, inr}
 use Rattle.std.specs.Prelude.{is_none, nat_le, slice_get}
 use Rattle.std.proofs.lemmas.Bool.{le-leb, lt-leb}
 use Rattle.std.proofs.lemmas.Option.{same_Some}
@@ -36,12 +36,13 @@ use Rattle.transactions.specs.Lines.{ScansLine}
 use Rattle.transactions.specs.Scanning.{FillsItsGroup}
 use Rattle.volume_port.specs.Reading.{OthersStay}
 use Rattle.transactions.proofs.Naming.{refuses_so}
+use Rattle.transactions.proofs.ScansLeft.{scans_stay}
 
 -- ---- a refusal, and a stop
 
 pub scans_refused : {a b : Outside} {old new : SessionState} (r : Request) (why : Refusal) → OnlyFrames a b old new → IsSession old → IfShown a old (λ before. (q : Pick) → refusal_of before.machine r q ≡ Some why)
     → ScansLine a b old new r (Ok (reply.No why))
-scans_refused r why only is refuses = record {
+scans_refused {a} {b} {old} {new} r why only is refuses = record {
   reads = only.reads;
   geometry = ap (λ (s : SessionState). s.geometry) only.same;
   log = ap (λ (s : SessionState). s.log) only.same;
@@ -50,6 +51,7 @@ scans_refused r why only is refuses = record {
   sound = tt;
   refused = λ _. only;
   stepped = λ before same now. refuses_so r why only is before same now (refuses before same now);
+  scans = scans_stay old.scans new.scans r (ap (λ (s : SessionState). s.scans) only.same);
 }
 
 -- what a stop leaves of the session
@@ -59,8 +61,19 @@ pub record StoppedAt (a b : Outside) (old new : SessionState) : Type 0 where
   pub log : new.log ≡ old.log
   pub down : new.down ≡ old.down
 
-pub scans_stopped : {a b : Outside} {old new : SessionState} (r : Request) (why : Stop) → StoppedAt a b old new → LineStops a b why → IfShown a old (λ before. IsOutside why) → ScansLine a b old new r (Err why)
-scans_stopped r why left stops sound = record { reads = left.reads; geometry = left.geometry; log = left.log; down = left.down; stops = stops; sound = sound; refused = tt; stepped = tt }
+pub scans_stopped : {a b : Outside} {old new : SessionState} (r : Request) (why : Stop) → StoppedAt a b old new → LineStops a b why → IfShown a old (λ before. IsOutside why) → new.scans ≡ old.scans
+    → ScansLine a b old new r (Err why)
+scans_stopped {a} {b} {old} {new} r why left stops sound scans = record {
+  reads = left.reads;
+  geometry = left.geometry;
+  log = left.log;
+  down = left.down;
+  stops = stops;
+  sound = sound;
+  refused = tt;
+  stepped = tt;
+  scans = scans_stay old.scans new.scans r scans;
+}
 
 -- an accepted command, with the machine and the session that it leaves
 pub accepted_so : {b : Outside} {new : SessionState} (before : View SessionState) (r : Request) (told : Reply) (m : Machine) → ShowsNow meant b (record { machine = m; session = new; disk = before.disk })
@@ -139,13 +152,14 @@ module _ {a b : Outside} {old new : SessionState} (name : List ℕ) (len index :
           sound = tt;
           refused = λ told. absurd (let is_no = told.1 in cc);
           stepped = stepped_next;
+          scans = inr (record { index = index; named = at; rows = gives.moved });
         }
 
-  pub next_stopped : (why : Stop) → OnlyFrames a b (with_scans old new.scans) new → LineStops a b why
+  pub next_stopped : (why : Stop) → OnlyFrames a b (with_scans old new.scans) new → new.scans ≡ old.scans → LineStops a b why
       → IfShown a old (λ before. (row : ScanRow) → slice_get before.machine.scans index ≡ Some row → IsOutside why) → ScansLine a b old new (request.Next name len) (Err why)
-  next_stopped why only stops sound = scans_stopped (request.Next name len) why (left_by only) stops (λ before same now.
+  next_stopped why only stays stops sound = scans_stopped (request.Next name len) why (left_by only) stops (λ before same now.
       let has = scan_as before now.shows name index (ap (λ (s : SessionState). scan_index s.scans name) same ∙ at) in
-      sound before same now has.row has.at)
+      sound before same now has.row has.at) stays
 
 -- ---- a group is made
 
@@ -204,6 +218,7 @@ module _ {a : Outside} {old : SessionState} (name : List ℕ) (frames : ℕ) (mr
         sound = tt;
         refused = λ told. absurd (let is_no = told.1 in cc);
         stepped = stepped_group made;
+        scans = ap (λ (s : SessionState). s.scans) made;
       }
 
   -- no memory was there
@@ -217,4 +232,5 @@ module _ {a : Outside} {old : SessionState} (name : List ℕ) (frames : ℕ) (mr
     sound = λ before from now. subst IsOutside (sym memory) tt;
     refused = tt;
     stepped = tt;
+    scans = ap (λ (s : SessionState). s.scans) same;
   }

@@ -44,3 +44,35 @@ none_through old (request.Group x y z) why = tt
 none_through old (request.Scan x y z) why = tt
 none_through old (request.Next x y) why = λ index at row here other apart. refl
 none_through old (request.Close x) why = tt
+
+-- where a stop is told in place of what came
+pub stopped_through : (old : SessionState) (scans : List OpenRow) (groups : List Frames) (r : Request) (result : Result Reply Stop) (why : Stop)
+    → ReadsThrough old scans groups r result → ReadsThrough old scans groups r (Err why)
+stopped_through old scans groups request.Begin result why through = tt
+stopped_through old scans groups request.Commit result why through = tt
+stopped_through old scans groups request.Abort result why through = tt
+stopped_through old scans groups request.Checkpoint result why through = tt
+stopped_through old scans groups request.Log result why through = tt
+stopped_through old scans groups request.Files result why through = tt
+stopped_through old scans groups request.Space result why through = tt
+stopped_through old scans groups (request.File x) result why through = tt
+stopped_through old scans groups (request.Unfile x) result why through = tt
+stopped_through old scans groups (request.ListFile x) result why through = tt
+stopped_through old scans groups (request.Create x y) result why through = tt
+stopped_through old scans groups (request.Destroy x) result why through = tt
+stopped_through old scans groups (request.Size x) result why through = tt
+stopped_through old scans groups (request.Stat x) result why through = tt
+stopped_through old scans groups (request.Digest x) result why through = tt
+stopped_through old scans groups (request.Versions x) result why through = tt
+stopped_through old scans groups (request.DropVersion x) result why through = tt
+stopped_through old scans groups (request.Read x y z) result why through = tt
+stopped_through old scans groups (request.Insert x y z) result why through = tt
+stopped_through old scans groups (request.Append x y) result why through = tt
+stopped_through old scans groups (request.Replace x y z) result why through = tt
+stopped_through old scans groups (request.Delete x y z) result why through = tt
+stopped_through old scans groups (request.Freeze x y) result why through = tt
+stopped_through old scans groups (request.Derive x y) result why through = tt
+stopped_through old scans groups (request.Group x y z) result why through = tt
+stopped_through old scans groups (request.Scan x y z) result why through = tt
+stopped_through old scans groups (request.Next x y) result why through = through
+stopped_through old scans groups (request.Close x) result why through = tt

@@ -62,6 +62,7 @@ module _ {a b : Outside} {old new : SessionState} (r : Request) (world : IsWorld
         };
     any_moment = λ before same now. quiet_moments r world only.reads before now;
     shaped = λ before same now. refused_shaped before.machine (pages_on a old) (pages_on b new) r why;
+    scans = ap (λ (s : SessionState). s.scans) only.same;
   }
 
   pub line_stopped : (why : Stop) → LineStops a b why → IfShown a old (λ before. IsOutside why) → UpdatesLine a b old new r (Err why)
@@ -77,6 +78,7 @@ module _ {a b : Outside} {old new : SessionState} (r : Request) (world : IsWorld
     stepped = tt;
     any_moment = λ before same now. quiet_moments r world only.reads before now;
     shaped = tt;
+    scans = ap (λ (s : SessionState). s.scans) only.same;
   }
 
 -- no transaction is open
@@ -125,6 +127,7 @@ module _ {a b c : Outside} {old mid new : SessionState} (r : Request) (world : I
     stepped = tt;
     any_moment = moments;
     shaped = tt;
+    scans = went.scans ∙ ap (λ (s : SessionState). s.scans) read.same;
   }
 
   pub update_done : (told : Reply) → ((why : Refusal) → told ≡ reply.No why → ⊥) → IfShown a old (λ before. ShowsNow meant b (with_groups before mid) → Stepped meant (with_groups before mid) r told new c)
@@ -142,4 +145,5 @@ module _ {a b c : Outside} {old mid new : SessionState} (r : Request) (world : I
     any_moment = moments;
     shaped = λ before same now.
         subst (λ (p : VolumePages). LineShaped before.machine p (pages_on c new) r told) (read_pages read) (lies before same now (same_view before same now read is.sizes));
+    scans = went.scans ∙ ap (λ (s : SessionState). s.scans) read.same;
   }

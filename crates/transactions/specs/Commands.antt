@@ -14,6 +14,7 @@ use Rattle.session_core.specs.Updates.{WritesUnused}
 use Rattle.ex_base.specs.declared.names.Oid.{Oid}
 use Rattle.session_core.specs.Damage.{no_version}
 use Rattle.transactions.specs.Lines.{named_as}
+use Rattle.transactions.specs.Scanning.{LeavesScans}
 
 -- The command makes, changes or removes a version. What it writes of a tree goes to units that are not in use, at once.
 abbrev pub changes_objects : Request → Bool
@@ -100,3 +101,4 @@ pub record Answers (a b : Outside) (old new : SessionState) (r : Request) (resul
   pub reads : ReadsAlone r → ReadsOnly a b
   pub stepped : (before : View SessionState) → before.session ≡ old → ShowsNow meant a before → IfOk result (λ told. Stepped meant before r told new b)
   pub any_moment : (before : View SessionState) → before.session ≡ old → ShowsNow meant a before → Leaves a b (StandsDuring meant before.machine r)
+  pub scans : LeavesScans old.scans new.scans r

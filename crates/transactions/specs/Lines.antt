@@ -15,6 +15,7 @@ use Rattle.session_core.specs.Steps.{IsRefused, OnlyFrames}
 use Rattle.session_core.specs.Updates.{WritesUnused}
 use Rattle.session_core.specs.Finding.{IfShown, LineStops, IsOutside, oid_among}
 use Rattle.transactions.specs.Contents.{StepShaped}
+use Rattle.transactions.specs.Scanning.{LeavesScans}
 use Rattle.ex_base.specs.declared.names.Oid.{Oid}
 
 -- The machine refuses the line so, or accepts it, whatever the volume decides.
@@ -44,9 +45,10 @@ pub record ScansLine (a b : Outside) (old new : SessionState) (r : Request) (res
   pub sound : IfErr result (λ why. IfShown a old (λ before. IsOutside why))
   pub refused : IfOk result (λ told. IsRefused told → OnlyFrames a b old new)
   pub stepped : IfOk result (λ told. IfShown a old (λ before. Stepped meant before r told new b))
+  pub scans : LeavesScans old.scans new.scans r
 
 -- A line that changes objects. Of the disk it writes but units that are not in use, so that a crash at any moment leaves the committed table; the log
--- stays. A refusal leaves the session but for its frames. From a view that shows it steps as the machine does, or the stop is no fault of the volume.
+-- and the open scans stay. A refusal leaves the session but for its frames. From a view that shows it steps as the machine does, or the stop is no fault of the volume.
 pub record UpdatesLine (a b : Outside) (old new : SessionState) (r : Request) (result : Result Reply Stop) : Type 0 where
   pub only : DiskOnly a b
   pub writes : WritesUnused a b old
@@ -59,9 +61,10 @@ pub record UpdatesLine (a b : Outside) (old new : SessionState) (r : Request) (r
   pub stepped : IfOk result (λ told. IfShown a old (λ before. Stepped meant before r told new b))
   pub any_moment : (before : View SessionState) → before.session ≡ old → ShowsNow meant a before → Leaves a b (StandsDuring meant before.machine r)
   pub shaped : StepShaped a b old new r result
+  pub scans : new.scans ≡ old.scans
 
 -- What an update leaves, however it ended: of the disk nothing was written but units that are not in use, so that a crash at any moment leaves the committed
--- table; the log stays.
+-- table; the log and the open scans stay.
 pub record WentOn (b c : Outside) (mid new : SessionState) : Type 0 where
   pub only : DiskOnly b c
   pub writes : WritesUnused b c mid
@@ -69,3 +72,4 @@ pub record WentOn (b c : Outside) (mid new : SessionState) : Type 0 where
   pub log : new.log ≡ mid.log
   pub down : new.down ≡ mid.down
   pub moments : (before : View SessionState) → before.session ≡ mid → ShowsNow meant b before → (r : Request) → Leaves b c (StandsDuring meant before.machine r)
+  pub scans : new.scans ≡ mid.scans

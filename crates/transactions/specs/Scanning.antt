@@ -1,8 +1,9 @@
 -- Why no scan is opened of a version that a line names, and which groups scans read through.
-use Rattle.std.specs.Prelude.{⊤, ◌≡◌, ◌⊎◌, ℕ, List, [], ◌∷◌, ◌++◌, length, nat_le, is_none, true, IfOk, Option, Some, None, Result, Ok, Err}
+use Rattle.std.specs.Prelude.{⊤, ◌≡◌, ◌⊎◌, ℕ, List, [], ◌∷◌, ◌++◌, length, nat_le, is_none, true, IfOk, Option, Some, None, Result, Ok, Err, slice_set}
+use Rattle.std.specs.List.{remove}
 use Rattle.buffer_groups.specs.Frames.{Frames}
 use Rattle.open_scans.specs.GroupRows.{group_index}
-use Rattle.open_scans.specs.OpenScans.{AtRow, OpenRow, scan_index}
+use Rattle.open_scans.specs.OpenScans.{AtRow, OpenRow, row_after, scan_index}
 use Rattle.session_core.specs.declared.session.objects.Named.{Named}
 use Rattle.session_core.specs.ScanRows.{takes_name}
 use Rattle.session_core.specs.Sessions.{SessionState}
@@ -66,3 +67,30 @@ abbrev pub ReadsThrough : SessionState → List OpenRow → List Frames → Requ
 ReadsThrough old scans groups (request.Scan x name group) result = IfOk result (λ told. IsRefused told ⊎ OpensThrough old scans name group)
 ReadsThrough old scans groups (request.Next name len) result = FillsItsGroup old groups name
 ReadsThrough old scans groups r result = ⊤
+
+-- ---- the scans that are open
+
+-- One scan was put behind the others.
+pub record OpensOne (old new : List OpenRow) : Type 0 where
+  pub row : OpenRow
+  pub rows : new ≡ old ++ row ∷ []
+
+-- The scan of the name moved on behind what it gives next, under its name and on its group; the others are as they were.
+pub record MovesOne (old new : List OpenRow) (name : List ℕ) (len : ℕ) : Type 0 where
+  pub index : ℕ
+  pub named : scan_index old name ≡ Some index
+  pub rows : AtRow old index (λ row. new ≡ slice_set old index (row_after len row))
+
+-- The scan of the name was taken out; the others are as they were, in their order.
+pub record ClosesOne (old new : List OpenRow) (name : List ℕ) : Type 0 where
+  pub index : ℕ
+  pub named : scan_index old name ≡ Some index
+  pub rows : new ≡ remove old index
+
+-- A command leaves each open scan as it is, with the group that it reads through. Only the one that opens a scan puts it behind them, the one that gives what
+-- a scan has next moves that one on, and the one that closes a scan takes that one out.
+abbrev pub LeavesScans : List OpenRow → List OpenRow → Request → Type 0
+LeavesScans old new (request.Scan x name group) = (new ≡ old) ⊎ OpensOne old new
+LeavesScans old new (request.Next name len) = (new ≡ old) ⊎ MovesOne old new name len
+LeavesScans old new (request.Close name) = (new ≡ old) ⊎ ClosesOne old new name
+LeavesScans old new r = new ≡ old

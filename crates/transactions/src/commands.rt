@@ -24,7 +24,7 @@ ghost use Rattle.session_core.specs.Steps.{IsRefused, OnlyFrames, IsQuiet};
 ghost use Rattle.session_core.specs.Updates.{WritesUnused};
 ghost use Rattle.transactions.specs.Commands.{Answers, IsCopy, IsHonestTo, IsOfCatalog, ReadsAlone, asks_objects, names_version};
 ghost use Rattle.transactions.specs.Ways.{IsSoundReply};
-ghost use Rattle.transactions.specs.Scanning.{ReadsThrough};
+ghost use Rattle.transactions.specs.Scanning.{LeavesScans, ReadsThrough};
 ghost use Rattle.transactions.specs.Contents.{StepShaped};
 
 use crate::changes::{append, delete, insert, replace};
@@ -164,7 +164,7 @@ fn answer_objects<H: Host>(
     }
 }
 
-/// Steps on a command, as the machine does that the session shows. The disk is as large as the session's volume. A step that met a fault puts the session down, and then every step says so.
+/// Steps on a command, as the machine does that the session shows. The disk is as large as the session's volume. A step that met a fault puts the session down, and then every step says so. It looks at the disk's count of faults itself: where that rose, it answers so, whatever came of the command.
 pub fn step<H: Host>(
     session: &mut Session,
     alloc: Global,
@@ -177,6 +177,8 @@ pub fn step<H: Host>(
     ensures only { DiskOnly (H.outside host.old) (H.outside host.new) }
     ensures disk { result ≡ Err Stop.Disk
         → Rose (H.outside host.old).disk_faults (H.outside host.new).disk_faults }
+    ensures told { result ≢ Err Stop.Disk
+        → (H.outside host.new).disk_faults ≡ (H.outside host.old).disk_faults }
     ensures damaged { (page : PageNo) (want got : Seen)
         → result ≡ Err (Stop.Damaged page want got) → want ≢ got }
 
@@ -289,6 +291,9 @@ pub fn step<H: Host>(
     ensures through { ReadsThrough session.old session.new.scans session.new.groups
         (request_of command.now) result }
 
+    // It leaves each open scan as it is, with its group, but that its own line puts one behind them, moves one on, or takes one out.
+    ensures scans { LeavesScans session.old.scans session.new.scans (request_of command.now) }
+
     // An edited version is small after it exactly where its record fits its page, and its tree has the shape of its edit; a copy has its version's content,
     // root and all; a new object is small.
     ensures shaped { StepShaped (H.outside host.old) (H.outside host.new) session.old session.new
@@ -310,7 +315,12 @@ pub fn step<H: Host>(
     if session.is_down() {
         return Err(Stop::Down);
     }
+    let faults = host.faults();
     let told = answer(session, alloc, host, command);
+    if host.faults() != faults {
+        session.put_down();
+        return Err(Stop::Disk);
+    }
     if told.is_err() {
         session.put_down();
     }

@@ -107,7 +107,7 @@ fn total_in<H: Host>(
     Ok(totals)
 }
 
-/// Sums up what the session shows. The disk is read at most.
+/// Sums up what the session shows. The disk is read at most. A fault of it is told, as in a step.
 pub fn summarize<H: Host>(
     session: &mut Session,
     alloc: Global,
@@ -117,6 +117,8 @@ pub fn summarize<H: Host>(
     ensures only { ReadsOnly (H.outside host.old) (H.outside host.new) }
     ensures disk { result ≡ Err Stop.Disk
         → Rose (H.outside host.old).disk_faults (H.outside host.new).disk_faults }
+    ensures told { result ≢ Err Stop.Disk
+        → (H.outside host.new).disk_faults ≡ (H.outside host.old).disk_faults }
     ensures damaged { (page : PageNo) (want got : Seen)
         → result ≡ Err (Stop.Damaged page want got) → want ≢ got }
 
@@ -158,7 +160,12 @@ pub fn summarize<H: Host>(
     if session.is_down() {
         return Err(Stop::Down);
     }
+    let faults = host.faults();
     let summary = sum_up(session, alloc, host);
+    if host.faults() != faults {
+        session.put_down();
+        return Err(Stop::Disk);
+    }
     if summary.is_err() {
         session.put_down();
     }

@@ -154,6 +154,7 @@ impl Session {
         ensures geometry { self.new.geometry ≡ self.old.geometry }
         ensures log { self.new.log ≡ self.old.log }
         ensures down { self.new.down ≡ self.old.down }
+        ensures scans { self.new.scans ≡ self.old.scans }
     {
         self.volume.meta.edit(alloc, PageNo::CATALOG, catalog)?;
         self.notes.push(OpNote {
@@ -171,8 +172,5 @@ pub fn view_of(page: &[u8]) -> CatalogView<'_>
     requires { IsCatalogPage page.now }
     ensures { result ≡ catalog_on page.now }
 {
-    match CatalogView::of(page) {
-        Some(catalog) => catalog,
-        None => unreachable!(),
-    }
+    CatalogView::known(page)
 }

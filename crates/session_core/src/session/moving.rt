@@ -229,6 +229,7 @@ impl Session {
         ensures geometry { self.new.geometry ≡ self.old.geometry }
         ensures log { self.new.log ≡ self.old.log }
         ensures down { self.new.down ≡ self.old.down }
+        ensures scans { self.new.scans ≡ self.old.scans }
         ensures given_up { OnErr result (GivenUp self.new) }
         ensures stops { IfErr result (LineStops (H.outside host.old) (H.outside host.new)) }
         ensures damage { IsTrue (H.outside host.old).honest

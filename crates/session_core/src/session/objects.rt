@@ -13,7 +13,7 @@ use ex_base::{Oid, PageNo, PortFault};
 use session_views::Stop;
 use std::alloc::Global;
 use table_model::{Refusal, Subject};
-use versions::{Found, find, objects, read_at};
+use versions::{Found, find, objects, place_of, read_at, read_small};
 use volume_port::{MAIN, ReadingPort};
 
 /// What a session stops at where a call of its port failed.
@@ -244,8 +244,45 @@ impl Session {
     {
         match version.found.root {
             Some(root) => self.read_tree(alloc, disk, &root, pos, out),
-            None => self.read_bytes(alloc, disk, &version.oid, pos, out),
+            None => self.read_record(alloc, disk, version, pos, out),
         }
+    }
+
+    // Reads bytes of a small version as it was found, from a position on, as many as `out` holds. Of the volume only the page of its record is read.
+    fn read_record<D: Disk>(
+        &mut self,
+        alloc: Global,
+        disk: &mut D,
+        version: &Named,
+        pos: u64,
+        out: &mut [u8],
+    ) -> Result<(), Stop>
+        requires room { volume_bytes self.old.geometry ≤ (D.outside disk.old).size }
+        requires small { version.now.found.root ≡ None }
+        ensures session { IsSession self.old }
+        ensures only { OnlyFrames (D.outside disk.old) (D.outside disk.new) self.old self.new }
+        ensures bytes { OnOk result (IfShown (D.outside disk.old) self.old
+            (λ before. IfFound before version.now (λ bytes. out.new
+            ≡ bytes_at bytes pos (length out.old)))) }
+        ensures stops { IfErr result (LineStops (D.outside disk.old) (D.outside disk.new)) }
+        ensures damage { IfErr result (TellsDamage (D.outside disk.old) (D.outside disk.new)
+            self.old (the_version version.now.oid)) }
+        ensures sound { IfErr result (λ why. IfShown (D.outside disk.old) self.old
+            (λ before. IfFound before version.now (λ bytes. pos + length out.old ≤ length bytes
+            → IsOutside why))) }
+    {
+        let mut port = ReadingPort {
+            disk,
+            groups: &mut self.volume.groups,
+            room: &mut self.room,
+            index: MAIN,
+            keeps_leaves: false,
+            geometry: self.volume.geometry,
+            meta: &self.volume.meta,
+            pages: &self.volume.pages,
+        };
+        let place = place_of(&version.oid);
+        or_stop(read_small(&mut port, alloc, place, pos, out))
     }
 
     /// The OIDs of the current versions of the file with a number, in order of unique number. It stops where the disk fails, where memory is wanted, and

@@ -37,7 +37,7 @@ returns-in-Ok-update_objects-clause-line g c = λ r asked.
     let change = asked_change c.args.asked.now in
     let given = c.in-Ok-Ok.given in
     let went : WentOn (g.H.World.outside c.admit.new.host) (g.H.World.outside c.update_objects.new.host) c.admit.new.session c.update_objects.new.self =
-    record { only = c.update_objects.ensures.only; writes = c.update_objects.ensures.writes; geometry = c.update_objects.ensures.geometry; log = c.update_objects.ensures.log; down = c.update_objects.ensures.down; moments = c.update_objects.ensures.any_moment } in
+    record { only = c.update_objects.ensures.only; writes = c.update_objects.ensures.writes; geometry = c.update_objects.ensures.geometry; log = c.update_objects.ensures.log; down = c.update_objects.ensures.down; moments = c.update_objects.ensures.any_moment; scans = c.update_objects.ensures.scans } in
     changed_so x change (g.H.World.is_world c.args.host.now) c.admit.ensures.session c.requires.is_open c.admit.ensures.only r asked given
     (admitted_so x change given c.in-Ok-Ok.field-0 c.in-Ok-Ok.field-0-is c.in-Ok-Ok.ensures.admitted) (within_so c.args.session.now change given c.in-Ok-Ok.field-0 c.in-Ok-Ok.field-0-is c.in-Ok-Ok.ensures.limits)
     went c.with_bytes-edit.result (sym c.with_bytes-edit.ensures) c.in-Ok-update_objects.field-0 c.note_of-note.result c.size_after.result c.reply_of.result c.in-Ok-update_objects.ensures.named c.note_of-note.ensures c.size_after.ensures c.reply_of.ensures
@@ -49,7 +49,7 @@ returns-clause-line g c = λ r asked.
     let change = asked_change c.args.asked.now in
     let given = c.in-Ok-Ok.given in
     let went : WentOn (g.H.World.outside c.admit.new.host) (g.H.World.outside c.update_objects.new.host) c.admit.new.session c.update_objects.new.self =
-    record { only = c.update_objects.ensures.only; writes = c.update_objects.ensures.writes; geometry = c.update_objects.ensures.geometry; log = c.update_objects.ensures.log; down = c.update_objects.ensures.down; moments = c.update_objects.ensures.any_moment } in
+    record { only = c.update_objects.ensures.only; writes = c.update_objects.ensures.writes; geometry = c.update_objects.ensures.geometry; log = c.update_objects.ensures.log; down = c.update_objects.ensures.down; moments = c.update_objects.ensures.any_moment; scans = c.update_objects.ensures.scans } in
     change_stopped x change (g.H.World.is_world c.args.host.now) c.admit.ensures.session c.requires.is_open c.admit.ensures.only r asked given
     (admitted_so x change given c.in-Ok-Ok.field-0 c.in-Ok-Ok.field-0-is c.in-Ok-Ok.ensures.admitted) (within_so c.args.session.now change given c.in-Ok-Ok.field-0 c.in-Ok-Ok.field-0-is c.in-Ok-Ok.ensures.limits)
     went c.with_bytes-edit.result (sym c.with_bytes-edit.ensures) c.in-Err-update_objects.stop c.in-Err-update_objects.ensures.stops c.in-Err-update_objects.ensures.sound

@@ -51,6 +51,7 @@ returns-in-Err-bind_if-clause-went g c =
       log = ap (λ (s : SessionState). s.log) c.in-Err-bind_if.ensures.err ∙ c.update_objects.ensures.log;
       down = ap (λ (s : SessionState). s.down) c.in-Err-bind_if.ensures.err ∙ c.update_objects.ensures.down;
       moments = c.update_objects.ensures.any_moment;
+      scans = ap (λ (s : SessionState). s.scans) c.in-Err-bind_if.ensures.err ∙ c.update_objects.ensures.scans;
     }
 
 pub returns-in-Ok-bind_if-clause-went : goal.returns-in-Ok-bind_if-clause-went
@@ -62,4 +63,5 @@ returns-in-Ok-bind_if-clause-went g c =
       log = ap (λ (s : SessionState). s.log) c.in-Ok-bind_if.ensures.ok ∙ c.update_objects.ensures.log;
       down = ap (λ (s : SessionState). s.down) c.in-Ok-bind_if.ensures.ok ∙ c.update_objects.ensures.down;
       moments = c.update_objects.ensures.any_moment;
+      scans = ap (λ (s : SessionState). s.scans) c.in-Ok-bind_if.ensures.ok ∙ c.update_objects.ensures.scans;
     }

@@ -16,7 +16,7 @@ returns-in-Ok-clause-line g c = next_line c.args.name.now c.args.len c.in-Some.i
 })
 
 pub returns-in-Err-clause-line : goal.returns-in-Err-clause-line
-returns-in-Err-clause-line g c = next_stopped c.args.name.now c.args.len c.in-Some.index c.scan_index.ensures.session (sym c.in-Some.ensures.value) c.requires.form c.in-Err.stop c.next_piece.ensures.only c.in-Err.ensures.stops c.in-Err.ensures.sound
+returns-in-Err-clause-line g c = next_stopped c.args.name.now c.args.len c.in-Some.index c.scan_index.ensures.session (sym c.in-Some.ensures.value) c.requires.form c.in-Err.stop c.next_piece.ensures.only c.in-Err.ensures.stays c.in-Err.ensures.stops c.in-Err.ensures.sound
 
 pub returns-in-Ok-clause-way : goal.returns-in-Ok-clause-way
 returns-in-Ok-clause-way g c = λ tells. record {

@@ -39,7 +39,7 @@ pub returns-in-Ok-clause-line : goal.returns-in-Ok-clause-line
 returns-in-Ok-clause-line g c =
     let x = reference_of c.args.x.now in
     destroyed (g.H.World.is_world c.args.host.now) c.admit_destroy.ensures.session (sym c.is_open.ensures.value ∙ c.if-not-is_open.false) c.admit_destroy.ensures.only
-    (record { only = c.update_objects.ensures.only; writes = c.update_objects.ensures.writes; geometry = c.update_objects.ensures.geometry; log = c.update_objects.ensures.log; down = c.update_objects.ensures.down; moments = c.update_objects.ensures.any_moment })
+    (record { only = c.update_objects.ensures.only; writes = c.update_objects.ensures.writes; geometry = c.update_objects.ensures.geometry; log = c.update_objects.ensures.log; down = c.update_objects.ensures.down; moments = c.update_objects.ensures.any_moment; scans = c.update_objects.ensures.scans })
     x c.in-Ok-Ok.oid
     (admitted_with (λ oid. IfShown (g.H.World.outside c.args.host.now) c.args.session.now (λ before. AcceptsOf before.machine (request.Destroy x) x oid × AsksRemoval (shown before.machine) oid)) c.in-Ok-Ok.oid c.in-Ok-Ok.field-0 c.in-Ok-Ok.field-0-is c.in-Ok-Ok.ensures.admitted)
     c.in-Ok.oid c.object_note-note.result c.in-Ok.ensures.named c.object_note-note.ensures c.in-Ok.ensures.noted c.in-Ok.ensures.touched c.in-Ok.ensures.kept c.in-Ok.ensures.holds
@@ -48,7 +48,7 @@ pub returns-in-Err-update_objects-clause-line : goal.returns-in-Err-update_objec
 returns-in-Err-update_objects-clause-line g c =
     let x = reference_of c.args.x.now in
     destroy_stopped (g.H.World.is_world c.args.host.now) c.admit_destroy.ensures.session (sym c.is_open.ensures.value ∙ c.if-not-is_open.false) c.admit_destroy.ensures.only
-    (record { only = c.update_objects.ensures.only; writes = c.update_objects.ensures.writes; geometry = c.update_objects.ensures.geometry; log = c.update_objects.ensures.log; down = c.update_objects.ensures.down; moments = c.update_objects.ensures.any_moment })
+    (record { only = c.update_objects.ensures.only; writes = c.update_objects.ensures.writes; geometry = c.update_objects.ensures.geometry; log = c.update_objects.ensures.log; down = c.update_objects.ensures.down; moments = c.update_objects.ensures.any_moment; scans = c.update_objects.ensures.scans })
     x c.in-Ok-Ok.oid
     (admitted_with (λ oid. IfShown (g.H.World.outside c.args.host.now) c.args.session.now (λ before. AcceptsOf before.machine (request.Destroy x) x oid × AsksRemoval (shown before.machine) oid)) c.in-Ok-Ok.oid c.in-Ok-Ok.field-0 c.in-Ok-Ok.field-0-is c.in-Ok-Ok.ensures.admitted)
     c.in-Err-update_objects.stop c.in-Err-update_objects.ensures.stops c.in-Err-update_objects.ensures.sound

@@ -33,7 +33,7 @@ pub returns-then-is_err-clause-stays_up : goal.returns-then-is_err-clause-stays_
 returns-then-is_err-clause-stays_up g c = stopped c.sum_up-summary.result _ (sym c.if-is_err.ensures.value)
 
 pub returns-then-is_err-clause-goes_down : goal.returns-then-is_err-clause-goes_down
-returns-then-is_err-clause-goes_down g c = of_any_fault c.sum_up-summary.result (ap (λ (s : SessionState). s.down) c.put_down.ensures)
+returns-then-is_err-clause-goes_down g c = of_any_fault c.sum_up-summary.result (ap (λ (s : SessionState). s.down) c.put_down-then-is_err.ensures)
 
 pub returns-else-is_err-clause-goes_down : goal.returns-else-is_err-clause-goes_down
 returns-else-is_err-clause-goes_down g c = not_stopped c.sum_up-summary.result _ (sym c.if-is_err.ensures.value)

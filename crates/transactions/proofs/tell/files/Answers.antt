@@ -16,4 +16,4 @@ pub view_of-requires : goal.view_of-requires
 view_of-requires g c = subst (λ (b : List ℕ). CatalogOf b (catalog_on b)) (sym c.deref.ensures.value) c.in_ok-page.ensures.catalog
 
 pub returns : goal.returns
-returns g c = memory_stop c.catalog.ensures.frames _ _ refl refl refl
+returns g c = memory_stop c.catalog.ensures.frames _ _ refl refl refl refl

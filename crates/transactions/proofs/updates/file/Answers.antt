@@ -51,7 +51,7 @@ pub view_of-requires : goal.view_of-requires
 view_of-requires g c = subst (λ (b : List ℕ). CatalogOf b (catalog_on b)) (sym c.deref.ensures.value) c.in_ok-page.ensures.catalog
 
 pub returns : goal.returns
-returns g c = memory_stop c.catalog.ensures.frames _ _ c.update_catalog.ensures.geometry c.update_catalog.ensures.log c.update_catalog.ensures.down
+returns g c = memory_stop c.catalog.ensures.frames _ _ c.update_catalog.ensures.geometry c.update_catalog.ensures.log c.update_catalog.ensures.down c.update_catalog.ensures.scans
 
 pub returns-then-is_err : goal.returns-then-is_err
-returns-then-is_err g c = memory_stop c.catalog.ensures.frames _ _ c.update_catalog.ensures.geometry c.update_catalog.ensures.log c.update_catalog.ensures.down
+returns-then-is_err g c = memory_stop c.catalog.ensures.frames _ _ c.update_catalog.ensures.geometry c.update_catalog.ensures.log c.update_catalog.ensures.down c.update_catalog.ensures.scans

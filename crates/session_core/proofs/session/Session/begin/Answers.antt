@@ -51,4 +51,4 @@ pub returns-then-is_err : goal.returns-then-is_err
 returns-then-is_err g c =
     let only = c.catalog.ensures.frames in
     let same = c.self-2.view_is ∙ only.same in
-    quiet_stop request.Begin stop.Memory only.reads (ap (λ (t : SessionState). t.geometry) same) (ap (λ (t : SessionState). t.log) same) (ap (λ (t : SessionState). t.down) same) tt
+    quiet_stop request.Begin stop.Memory only.reads (ap (λ (t : SessionState). t.geometry) same) (ap (λ (t : SessionState). t.log) same) (ap (λ (t : SessionState). t.down) same) tt (ap (λ (t : SessionState). t.scans) same)

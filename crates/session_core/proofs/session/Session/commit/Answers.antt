@@ -48,7 +48,7 @@ pub returns-in-Err-clause-steps : goal.returns-in-Err-clause-steps
 returns-in-Err-clause-steps g c =
     let only = c.catalog.ensures.frames in
     quietly request.Commit _ (g.H.World.is_world c.args.host.now) (seen c.self.view_is c.self.invariant)
-    (quiet_stop request.Commit c.in-Err.stop only.reads (ap (λ (s : SessionState). s.geometry) only.same) (ap (λ (s : SessionState). s.log) only.same) (ap (λ (s : SessionState). s.down) only.same) c.in-Err.ensures.stops)
+    (quiet_stop request.Commit c.in-Err.stop only.reads (ap (λ (s : SessionState). s.geometry) only.same) (ap (λ (s : SessionState). s.log) only.same) (ap (λ (s : SessionState). s.down) only.same) c.in-Err.ensures.stops (ap (λ (s : SessionState). s.scans) only.same))
 
 pub returns-in_default-clause-steps : goal.returns-in_default-clause-steps
 returns-in_default-clause-steps g c =
@@ -78,7 +78,7 @@ returns-in-Err-release_roots-clause-steps g c =
     c.in-Err-release_roots.ensures.cause
     (λ damage own. c.in-Err-release_roots.ensures.sound damage
     (subst (λ (roots : List Root). OwnRoots two.pages two.kept two.geometry i two.groups two.units roots) (sym c.deref.ensures.value) (own_at s mid two only.same c.self-2.view_is own)))
-    (ap (λ (t : SessionState). t.geometry) (c.self-2.view_is ∙ only.same)) (ap (λ (t : SessionState). t.down) (c.self-2.view_is ∙ only.same))
+    (ap (λ (t : SessionState). t.geometry) (c.self-2.view_is ∙ only.same)) (ap (λ (t : SessionState). t.down) (c.self-2.view_is ∙ only.same)) (ap (λ (t : SessionState). t.scans) (c.self-2.view_is ∙ only.same))
 
 pub returns-in-Err-release_roots-clause-unwritten : goal.returns-in-Err-release_roots-clause-unwritten
 returns-in-Err-release_roots-clause-unwritten g c _ =
@@ -100,7 +100,7 @@ pub returns-then-is_err-clause-steps : goal.returns-then-is_err-clause-steps
 returns-then-is_err-clause-steps g c =
     let only = c.catalog.ensures.frames in
     quietly request.Commit _ (g.H.World.is_world c.args.host.now) (seen c.self.view_is c.self.invariant)
-    (quiet_stop request.Commit stop.Memory (reads_trans only.reads c.release_roots.ensures.gives.only) (ap (λ (t : SessionState). t.geometry) (c.self-2.view_is ∙ only.same)) (ap (λ (t : SessionState). t.log) (c.self-2.view_is ∙ only.same)) (ap (λ (t : SessionState). t.down) (c.self-2.view_is ∙ only.same)) tt)
+    (quiet_stop request.Commit stop.Memory (reads_trans only.reads c.release_roots.ensures.gives.only) (ap (λ (t : SessionState). t.geometry) (c.self-2.view_is ∙ only.same)) (ap (λ (t : SessionState). t.log) (c.self-2.view_is ∙ only.same)) (ap (λ (t : SessionState). t.down) (c.self-2.view_is ∙ only.same)) tt (ap (λ (t : SessionState). t.scans) (c.self-2.view_is ∙ only.same)))
 
 pub returns-then-is_err-clause-unwritten : goal.returns-then-is_err-clause-unwritten
 returns-then-is_err-clause-unwritten g c _ =
@@ -224,7 +224,7 @@ returns-in-Err-commit-clause-steps g c =
       moments = moments_at m b s mid two c.edit.new.self image c.in-Some.number only.same c.self-2.view_is edited c.commit.ensures.any_moment;
     } in
     commit_stopped s _ c.in-Ok.page.items image c.in-Some.number c.in-Err-commit.fault c.uncommitted.result c.uncommitted.ensures (g.H.World.is_world c.args.host.now) kept
-    (λ is. c.commit.ensures.disk (c.in-Err-commit.is ∙ ap (λ (f : CommitFault). Err f) is)) (ap (λ (t : SessionState). t.geometry) (c.self-2.view_is ∙ only.same)) (sym ((seen c.self.view_is c.self.invariant).up opened))
+    (λ is. c.commit.ensures.disk (c.in-Err-commit.is ∙ ap (λ (f : CommitFault). Err f) is)) (ap (λ (t : SessionState). t.geometry) (c.self-2.view_is ∙ only.same)) (sym ((seen c.self.view_is c.self.invariant).up opened)) (ap (λ (t : SessionState). t.scans) (c.self-2.view_is ∙ only.same))
 
 pub returns-in-Err-commit-clause-unwritten : goal.returns-in-Err-commit-clause-unwritten
 returns-in-Err-commit-clause-unwritten g c is =
