@@ -26,7 +26,7 @@ pub trait Engine {
     /// What each of its steps keeps.
     ghost keeps: { Keeping Self };
 
-    /// Steps on a command, to its reply. Refusals are replies.
+    /// Steps on a command, to its reply. Refusals are replies. A fault of the disk that came meanwhile is told, in place of anything else.
     fn step<H: Host>(
         &mut self,
         alloc: Global,
@@ -39,6 +39,8 @@ pub trait Engine {
         ensures only { DiskOnly (H.outside host.old) (H.outside host.new) }
         ensures disk { result ≡ Err Stop.Disk
             → Rose (H.outside host.old).disk_faults (H.outside host.new).disk_faults }
+        ensures told { result ≢ Err Stop.Disk
+            → (H.outside host.new).disk_faults ≡ (H.outside host.old).disk_faults }
         ensures damaged { (page : PageNo) (want got : Seen)
             → result ≡ Err (Stop.Damaged page want got) → want ≢ got }
 

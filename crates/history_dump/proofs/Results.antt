@@ -18,3 +18,7 @@ match_of (Err e) P Q A B p q f g = g q
 -- a fault is no value
 pub never_ok : {X E : Type 0} (e : E) (x : X) → ◌≡◌ {A = Result X E} (Err e) (Ok x) → ⊥
 never_ok {X} {E} e x is = subst (λ (r : Result X E). IfOk r (λ n. ⊥)) is tt
+
+-- one fault is one fault
+pub err_same : {X E : Type 0} {a b : E} → ◌≡◌ {A = Result X E} (Err a) (Err b) → a ≡ b
+err_same is = cc

@@ -106,6 +106,9 @@ impl Dumper {
         ensures at_end { V.tells volume.old → (v : Volume) (h : History)
             → IsWriting V.Ground volume.old v h self.old
             (length (stream_of (V.geometry volume.old) h)) → result ≡ Ok false }
+        ensures uncalled { V.tells volume.old → (v : Volume) (h : History)
+            → IsWriting V.Ground volume.old v h self.old
+            (length (stream_of (V.geometry volume.old) h)) → volume.new ≡ volume.old }
         ensures room { vec_len self.new.room ≡ vec_len self.old.room }
         ensures sound { IfErr result (λ fault. IsDamage fault → V.tells volume.old → (v : Volume)
             (h : History) (at : ℕ) → IsWriting V.Ground volume.old v h self.old at → ⊥) }
@@ -129,7 +132,7 @@ impl Dumper {
     }
 
     /// Gives the next bytes of the stream, as many as `out` has room for while there are some, and answers how many: 0 exactly at the end, or where `out` is
-    /// empty. The volume is as it was at `make`. After a fault no more is to be asked.
+    /// empty. The volume is as it was at `make`. After a fault no more is to be asked. At the end the volume isn't called.
     pub fn next<V: ReadVolume>(
         &mut self,
         alloc: Global,
@@ -148,6 +151,9 @@ impl Dumper {
         ensures at_end { V.tells volume.old → (v : Volume) (h : History)
             → IsWriting V.Ground volume.old v h self.old
             (length (stream_of (V.geometry volume.old) h)) → result ≡ Ok 0 }
+        ensures uncalled { V.tells volume.old → (v : Volume) (h : History)
+            → IsWriting V.Ground volume.old v h self.old
+            (length (stream_of (V.geometry volume.old) h)) → volume.new ≡ volume.old }
         ensures room { vec_len self.new.room ≡ vec_len self.old.room }
         ensures sound { IfErr result (λ fault. IsDamage fault → V.tells volume.old → (v : Volume)
             (h : History) (at : ℕ) → IsWriting V.Ground volume.old v h self.old at → ⊥) }

@@ -1,5 +1,5 @@
 //! The sending of a volume's stream.
-ghost use Rattle.std.specs.Prelude.{◌≡◌, ◌≤◌, ◌<◌, ◌+◌, ◌-◌, ◌^◌, ◌++◌, ℕ, List, min, length, take, Some, IfErr, IfOk, OnErr, OnOk, MatchResult, Ok, vec_len};
+ghost use Rattle.std.specs.Prelude.{◌≡◌, ◌≢◌, ◌≤◌, ◌<◌, ◌+◌, ◌-◌, ◌^◌, ◌++◌, ℕ, List, min, length, take, Some, IfErr, IfOk, OnErr, OnOk, MatchResult, Ok, Err, vec_len};
 ghost use Rattle.ex_base.specs.Bytes.{part};
 ghost use Rattle.ex_base.specs.Ports.{HasCause, IsDamage};
 ghost use Rattle.history_dump.specs.Sending.{ReadsAndSends, SendsFew, SendsWhole, SendsFront, DumpCause, IsSending, KeepsRest, TellsDamage, dump_fault};
@@ -38,7 +38,7 @@ fn piece_room(alloc: Global) -> Result<Vec<u8>, AllocError>
     vec![in alloc; 0u8; PIECE]
 }
 
-/// Plans the stream of a volume.
+/// Plans the stream of a volume. A fault of the disk that came meanwhile is told.
 fn plan_stream<D: Disk>(
     alloc: Global,
     disk: &mut D,
@@ -54,9 +54,12 @@ fn plan_stream<D: Disk>(
     ensures room { IfOk result (λ dumper. item_most volume.old.geometry ≤ vec_len dumper.room) }
     ensures cause { HasCause (D.outside disk.old).disk_faults (D.outside disk.new).disk_faults
         result }
+    ensures told { result ≢ Err PortFault.Disk
+        → (D.outside disk.new).disk_faults ≡ (D.outside disk.old).disk_faults }
     ensures sound { IfErr result (λ fault. IsDamage fault → (d : Decoded) (image : List ℕ)
         → IsAtRest (D.outside disk.old) volume.old d image → ⊥) }
 {
+    let faults = disk.faults();
     let mut port = ReadingPort {
         disk,
         groups: &mut volume.groups,
@@ -67,10 +70,14 @@ fn plan_stream<D: Disk>(
         meta: &volume.meta,
         pages: &volume.pages,
     };
-    Dumper::make(alloc, &mut port)
+    let made = Dumper::make(alloc, &mut port);
+    if disk.faults() != faults {
+        return Err(PortFault::Disk);
+    }
+    made
 }
 
-/// Fills a piece with the next bytes of the stream of a volume, and answers how many.
+/// Fills a piece with the next bytes of the stream of a volume, and answers how many. A fault of the disk that came meanwhile is told.
 fn fill_piece<D: Disk>(
     alloc: Global,
     disk: &mut D,
@@ -98,10 +105,13 @@ fn fill_piece<D: Disk>(
     ensures room { vec_len dumper.new.room ≡ vec_len dumper.old.room }
     ensures cause { HasCause (D.outside disk.old).disk_faults (D.outside disk.new).disk_faults
         result }
+    ensures told { result ≢ Err PortFault.Disk
+        → (D.outside disk.new).disk_faults ≡ (D.outside disk.old).disk_faults }
     ensures sound { IfErr result (λ fault. IsDamage fault → (d : Decoded) (image : List ℕ)
         (h : History) (at : ℕ) → IsAtRest (D.outside disk.old) volume.old d image
         → IsSending (D.outside disk.old) volume.old d.volume h dumper.old at → ⊥) }
 {
+    let faults = disk.faults();
     let mut port = ReadingPort {
         disk,
         groups: &mut volume.groups,
@@ -112,7 +122,11 @@ fn fill_piece<D: Disk>(
         meta: &volume.meta,
         pages: &volume.pages,
     };
-    dumper.next(alloc, &mut port, piece)
+    let filled = dumper.next(alloc, &mut port, piece);
+    if disk.faults() != faults {
+        return Err(PortFault::Disk);
+    }
+    filled
 }
 
 /// Sends the stream of a volume, piece by piece.
@@ -142,6 +156,8 @@ fn send_pieces<H: Host>(
         → (was : List ℕ) → (H.outside host.old).sent ≡ Some was
         → SendsFew (stream_of volume.old.geometry h) was (H.outside host.new)) }
     ensures cause { IfErr result (DumpCause (H.outside host.old) (H.outside host.new)) }
+    ensures told { result ≢ Err DumpFault.Disk
+        → (H.outside host.new).disk_faults ≡ (H.outside host.old).disk_faults }
     ensures sound { IfErr result (λ fault. TellsDamage fault → (d : Decoded) (disk : List ℕ)
         (h : History) → IsAtRest (H.outside host.old) volume.old d disk
         → IsSending (H.outside host.old) volume.old d.volume h dumper.old 0 → ⊥) }
@@ -169,7 +185,8 @@ fn send_pieces<H: Host>(
 }
 
 /// Sends the stream of a volume at rest: its history, with each leaf and node that it reaches once. Of the disk nothing is written, and of the volume's state
-/// nothing changes but its frames. Where it fails, a front of the stream may have been sent, but never all.
+/// nothing changes but its frames. Where it fails, a front of the stream may have been sent, but never all. A fault of the disk that came meanwhile is
+/// told.
 pub fn send_dump<H: Host>(
     alloc: Global,
     host: &mut H,
@@ -186,6 +203,8 @@ pub fn send_dump<H: Host>(
         (λ _. SendsWhole disk (table_of (units_of d disk) d.volume) was (H.outside host.new))
         (λ _. SendsFront disk (table_of (units_of d disk) d.volume) was (H.outside host.new)) }
     ensures cause { IfErr result (DumpCause (H.outside host.old) (H.outside host.new)) }
+    ensures told { result ≢ Err DumpFault.Disk
+        → (H.outside host.new).disk_faults ≡ (H.outside host.old).disk_faults }
     ensures sound { IfErr result (λ fault. TellsDamage fault → (d : Decoded) (disk : List ℕ)
         → IsAtRest (H.outside host.old) volume.old d disk → ⊥) }
     ensures rests { (d : Decoded) (disk : List ℕ)

@@ -35,11 +35,13 @@ use volume_port::VolumeState;
 
 /// Opens the volume on a disk. It begins with a sync, then reads the volume and tests its parts in their order, and where records count it makes a
 /// checkpoint. A volume of which a part fails isn't written. In the state that it answers no record counts, no page has an image, the units in use and the
-/// logged pages are those that the volume reaches, each unit of a tree has as many references as roots and nodes name it, and no frame is filled.
+/// logged pages are those that the volume reaches, each unit of a tree has as many references as roots and nodes name it, and no frame is filled. Where the disk's count of faults rose meanwhile, it answers so, whatever came of it.
 pub fn open_volume<D: Disk>(alloc: Global, disk: &mut D) -> Result<VolumeState, OpenFault>
     ensures only { DiskOnly (D.outside disk.old) (D.outside disk.new) }
     ensures disk { result ≡ Err OpenFault.Disk
         → Rose (D.outside disk.old).disk_faults (D.outside disk.new).disk_faults }
+    ensures told { result ≢ Err OpenFault.Disk
+        → (D.outside disk.new).disk_faults ≡ (D.outside disk.old).disk_faults }
     ensures parts { IfOk result AreOpened }
     ensures room { IfOk result (λ p. volume_bytes p.geometry ≤ (D.outside disk.new).size) }
 
@@ -85,6 +87,55 @@ pub fn open_volume<D: Disk>(alloc: Global, disk: &mut D) -> Result<VolumeState, 
         → PartsMoments (D.outside disk.old) (D.outside disk.new) image }
 
     // Whatever is answered, the disk holds what it held, or what stands for the same table.
+    ensures holds { (image : List ℕ) → IsTrue (D.outside disk.old).honest
+        → (D.outside disk.old).disk ≡ Some image → HoldsAs image (D.outside disk.new) }
+{
+    let faults = disk.faults();
+    let opened = read_and_settle(alloc, disk);
+    if disk.faults() != faults {
+        return Err(OpenFault::Disk);
+    }
+    opened
+}
+
+// Opens the volume, and tells such faults of the disk as it meets.
+fn read_and_settle<D: Disk>(alloc: Global, disk: &mut D) -> Result<VolumeState, OpenFault>
+    ensures only { DiskOnly (D.outside disk.old) (D.outside disk.new) }
+    ensures disk { result ≡ Err OpenFault.Disk
+        → Rose (D.outside disk.old).disk_faults (D.outside disk.new).disk_faults }
+    ensures parts { IfOk result AreOpened }
+    ensures room { IfOk result (λ p. volume_bytes p.geometry ≤ (D.outside disk.new).size) }
+    ensures opened { IfOk result (λ p. (image : List ℕ) → IsTrue (D.outside disk.old).honest
+        → (D.outside disk.old).disk ≡ Some image
+        → OpenedOn image p.geometry (D.outside disk.new) p.log p.meta.committed (used_at p.units)
+        (refs_at p.units) (is_held p.pages)) }
+    ensures rests { IfOk result (λ p. (image : List ℕ) → IsTrue (D.outside disk.old).honest
+        → (D.outside disk.old).disk ≡ Some image → RestsAs image (D.outside disk.new) p) }
+    ensures stood { IfOk result (λ p. (image : List ℕ) → (D.outside disk.old).disk ≡ Some image
+        → (table : Table) × StandsFor image table) }
+    ensures bad { (part : Part) → result ≡ Err (OpenFault.BadVolume part) → (image : List ℕ)
+        → (D.outside disk.old).disk ≡ Some image → FirstBad image part }
+    ensures kept { (part : Part) → result ≡ Err (OpenFault.BadVolume part)
+        → IsTrue (D.outside disk.old).honest → (image : List ℕ)
+        → (D.outside disk.old).disk ≡ Some image
+        → ((D.outside disk.new).disk ≡ Some image) × Only image (D.outside disk.new).images }
+    ensures unwritten { (part : Part) → result ≡ Err (OpenFault.BadVolume part)
+        → WritesNothing (D.outside disk.old) (D.outside disk.new) }
+    ensures left { (image : List ℕ) (part : Part) → (D.outside disk.old).disk ≡ Some image
+        → FirstBad image part → WritesNothing (D.outside disk.old) (D.outside disk.new) }
+    ensures clean { (image : List ℕ) (d : Decoded) → (D.outside disk.old).disk ≡ Some image
+        → Decodes image d → d.records ≡ []
+        → WritesNothing (D.outside disk.old) (D.outside disk.new) }
+    ensures writes { (image : List ℕ) (d : Decoded) → (D.outside disk.old).disk ≡ Some image
+        → Decodes image d
+        → ChangesWithin (InLogOrLogged d) (D.outside disk.old) (D.outside disk.new) }
+    ensures any_moment { (image : List ℕ) → IsTrue (D.outside disk.old).honest
+        → (D.outside disk.old).disk ≡ Some image
+        → Leaves (D.outside disk.old) (D.outside disk.new)
+        (OpensAs (D.outside disk.old).images image) }
+    ensures parted { result ≢ Err OpenFault.Disk → (image : List ℕ)
+        → IsTrue (D.outside disk.old).honest → (D.outside disk.old).disk ≡ Some image
+        → PartsMoments (D.outside disk.old) (D.outside disk.new) image }
     ensures holds { (image : List ℕ) → IsTrue (D.outside disk.old).honest
         → (D.outside disk.old).disk ≡ Some image → HoldsAs image (D.outside disk.new) }
 {

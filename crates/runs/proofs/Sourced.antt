@@ -150,6 +150,7 @@ unbegun {M = M} {C = C} w world = record {
     bad_kept = λ part is. absurd (cc);
     unopened = λ image part holds fails. (Memory, refl, tt);
     left = λ image part holds fails. writes_nothing_refl w;
+    told = λ other. refl;
   };
   reads = record {
     within = λ is. absurd (cc);

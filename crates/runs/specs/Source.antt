@@ -1,6 +1,7 @@
 -- What a whole run of a source promises, whichever talk takes its lines from it.
 use Rattle.std.specs.Prelude.{◌≡◌, ◌⊎◌, ◌≤◌, ◌<◌, ◌+◌, ℕ, Option, Some, None, List, [], length, drop}
-use Rattle.disk_model.specs.Outside.{Outside, Rose}
+use Rattle.disk_model.specs.Calls.{MakesCalls}
+use Rattle.disk_model.specs.Outside.{Outside, ReadsOnly, Rose}
 use Rattle.table_model.specs.declared.table.Table.{Table}
 use Rattle.script_lines.specs.Reader.{ahead, counted, to_take}
 use Rattle.script_lines.specs.declared.lines.Lines.{Lines}
@@ -59,3 +60,8 @@ pub record RunOfSource {S H T : Type 0} (M : Meaning S) (C : Conduct S H) (Fresh
   pub reads : ReadsSource most before after ending
   -- Without a fault of the outside it reaches the end of a source that is within its bound, but for want of memory.
   pub completes : MayComplete M before after most → (ending ≡ None) ⊎ (ending ≡ Some Memory)
+
+-- The volume was not opened, since there was no memory for lines: nothing was called.
+pub record NotBegun (before after : Outside) : Type 0 where
+  pub reads : ReadsOnly before after
+  pub idle : MakesCalls 0 before after

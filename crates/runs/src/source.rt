@@ -1,12 +1,14 @@
 //! A whole run of a source, whichever talk takes its lines from it.
-ghost use Rattle.std.specs.Prelude.{IfOk};
+ghost use Rattle.std.specs.Prelude.{◌≡◌, ◌⊎◌, IfOk, Some};
 ghost use Rattle.std.specs.Result.{result_err};
 ghost use Rattle.disk_model.specs.Outside.{Goes};
 ghost use Rattle.engines.specs.Keeping.{conduct};
+ghost use Rattle.talks.specs.Headline.{RunOpens};
 ghost use Rattle.talks.specs.Passage.{IsBroken, IsOver};
 ghost use Rattle.talks.specs.Talking.{Left};
 ghost use Rattle.talks.specs.declared.stopped.Stopped.{Stopped};
-ghost use Rattle.runs.specs.Source.{ReadsAll, ReadsSome, RunOfSource};
+ghost use Rattle.talks.specs.declared.stopped.Stopped.TheVariants.{Memory};
+ghost use Rattle.runs.specs.Source.{NotBegun, ReadsAll, ReadsSome, RunOfSource};
 
 use disk_model::Host;
 use std::alloc::{AllocError, Global};
@@ -42,6 +44,12 @@ pub fn run_source<E: Opener + Drop, T: SourceTalk + Drop, H: Host>(
     ensures goes { Goes (H.outside host.old) (H.outside host.new) }
     ensures run { RunOfSource E.meaning (conduct H.outside E.keeps) E.fresh T.talking T.begins
         max_bytes (H.outside host.old) (H.outside host.new) (result_err result) }
+
+    // First the volume was opened, but where no memory was there for lines.
+    ensures opened { RunOpens E.meaning (conduct H.outside E.keeps) E.fresh E.opens
+        (H.outside host.old) (H.outside host.new) (result_err result)
+        ⊎ ((result_err result ≡ Some Memory)
+        × NotBegun (H.outside host.old) (H.outside host.new)) }
 {
     let mut talk = T::make(alloc, max_bytes)?;
     run_talk::<E, T, H>(alloc, host, &mut talk)

@@ -122,6 +122,17 @@ session_caused (stop.Damaged page want got) why before after is disk damaged =
     subst (λ (w : Stopped). CausedBy w before after) (sym (same_Some why (Damaged page want got) is)) (damaged page want got refl)
 session_caused stop.Down why before after is disk damaged = absurd (cc)
 
+-- One stop is one stop.
+pub err_same : {X E : Type 0} {a b : E} → ◌≡◌ {A = Result X E} (Err a) (Err b) → a ≡ b
+err_same is = cc
+
+-- A session's fault of the disk is told as one.
+pub session_told : {X Y : Type 0} (s : Stop) (why : Stopped) → Some why ≡ stop_as s → ◌≡◌ {A = Result X Stop} (Err s) (Err stop.Disk) → ◌≡◌ {A = Result Y Stopped} (Err why) (Err Disk)
+session_told stop.Memory why is disk = absurd (cc)
+session_told stop.Disk why is disk = ap (λ w. Err w) (same_Some why Disk is)
+session_told (stop.Damaged page want got) why is disk = absurd (cc)
+session_told stop.Down why is disk = absurd (cc)
+
 -- A fault that came later came since each earlier time.
 pub caused_later : (why : Stopped) (a b c : Outside) → Goes a b → CausedBy why b c → CausedBy why a c
 caused_later Script a b c goes caused = omega (arith, goes.read_faults, caused)

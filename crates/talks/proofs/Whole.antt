@@ -1,10 +1,11 @@
 -- From the opening of a volume to the end of its run.
-use Rattle.std.proofs.Common.{◌≡◌, ◌∙◌, ℕ, Option, Some, None, List, [], ◌∷◌, ◌++◌, Result, IfErr, IsTrue, refl, sym, ap, subst, inl, ⊎_elim}
+use Rattle.std.proofs.Common.{◌≡◌, ◌∙◌, ℕ, Option, Some, None, List, [], ◌∷◌, ◌++◌, Result, Err, IfErr, IsTrue, refl, sym, ap, subst, inl, ⊎_elim}
+use Rattle.std.specs.Prelude.{◌≢◌}
 use Rattle.std.specs.Result.{result_err}
 use Rattle.std.proofs.lemmas.List.{append-nil}
 use Rattle.std.proofs.lemmas.Option.{same_Some}
 use Rattle.disk_model.specs.Outside.{Outside, IsWorld, DiskOnly, Goes, Along, Leaves, Only, Rose, WritesNothing}
-use Rattle.disk_model.specs.Runs.{along_start, along_disk, along_wider, adds_trans, leaves_wider, goes_trans}
+use Rattle.disk_model.specs.Runs.{along_start, along_disk, along_wider, adds_trans, goes_refl, leaves_wider, goes_trans, reads_refl}
 use Rattle.table_model.specs.declared.table.Table.{Table}
 use Rattle.table_model.specs.declared.machine.Machine.{Machine}
 use Rattle.table_model.specs.Requests.{Request}
@@ -17,12 +18,13 @@ use Rattle.session_views.specs.Opening.{StandsOpening}
 use Rattle.engines.specs.Keeping.{Conduct}
 use Rattle.talks.specs.Opening.{Opened}
 use Rattle.talks.specs.Acking.{Acking}
-use Rattle.talks.specs.Headline.{HoldsTable, RunOn, RunStarts, OpenedAt, SteppedTalk, Unopened}
+use Rattle.talks.specs.Headline.{HoldsTable, RunOn, RunOpens, RunStarts, OpenedAt, SteppedTalk, Unopened}
 use Rattle.talks.specs.Passage.{ByDamagedStep}
 use Rattle.talks.specs.Stops.{CausedBy, IsLinesStop, IsOpeningStop, IsSoundStop, unopened_as}
 use Rattle.talks.specs.Talking.{Exchange, Talking}
 use Rattle.talks.specs.Transcript.{Row, Committed, IsRunMoment, Opens, Reached, CutShort, Ended, output_of, request_in}
 use Rattle.talks.specs.declared.stopped.Stopped.{Stopped}
+use Rattle.talks.specs.declared.stopped.Stopped.TheVariants.{Disk}
 use Rattle.talks.proofs.Going.{ended_after_rows, shows_now, stops_kept, trail_later}
 use Rattle.talks.proofs.Rows.{shows_at_later}
 use Rattle.talks.proofs.Stopping.{bad_part, opening_caused, opening_sound, opening_stop, opening_undamaged, stop_is, lines_good}
@@ -167,8 +169,9 @@ pub run_unopened : {S H : Type 0} {M : Meaning S} {C : Conduct S H} {a b : Outsi
     → ((part : Part) → fault ≡ open_fault.BadVolume part → (image : List ℕ) → a.disk ≡ Some image → M.FirstBad image part)
     → ((part : Part) → fault ≡ open_fault.BadVolume part → WritesNothing a b)
     → ((part : Part) → fault ≡ open_fault.BadVolume part → IsTrue a.honest → (image : List ℕ) → a.disk ≡ Some image → (b.disk ≡ Some image) × Only image b.images)
-    → ((image : List ℕ) (part : Part) → a.disk ≡ Some image → M.FirstBad image part → WritesNothing a b) → RunOn M C a b (Some (unopened_as fault))
-run_unopened {S} {H} {M} {C} {a} {b} fault disk bad only kept left = record {
+    → ((image : List ℕ) (part : Part) → a.disk ≡ Some image → M.FirstBad image part → WritesNothing a b)
+    → (fault ≢ open_fault.Disk → b.disk_faults ≡ a.disk_faults) → RunOn M C a b (Some (unopened_as fault))
+run_unopened {S} {H} {M} {C} {a} {b} fault disk bad only kept left told = record {
   caused = opening_caused fault a b disk;
   damaged = opening_undamaged C a b (unopened_as fault) (opening_stop fault);
   sound = λ table was on. opening_sound fault (λ part is. M.no_table on.image table part on.stands (bad part is on.image on.holds));
@@ -177,12 +180,14 @@ run_unopened {S} {H} {M} {C} {a} {b} fault disk bad only kept left = record {
   bad_kept = λ part is image honest holds. kept part (bad_part fault part is) honest image holds;
   unopened = λ image part holds fails. (unopened_as fault, refl, opening_stop fault);
   left = left;
+  told = λ other. told (λ is. other (ap (λ f. Some (unopened_as f)) is));
 }
 
 -- It was opened, and the lines went to their end or were stopped.
 pub run_opened : {S H T : Type 0} {M : Meaning S} {C : Conduct S H} {a b : Outside} (r : Result T Stopped) → ((image : List ℕ) → a.disk ≡ Some image → (table : Table) × M.StandsFor image table)
-    → IfErr r IsLinesStop → IfErr r (λ why. CausedBy why a b) → IfErr r (ByDamagedStep C a b) → ((table : Table) (was : List ℕ) → HoldsTable M a table was → IfErr r IsSoundStop) → RunOn M C a b (result_err r)
-run_opened {S} {H} {T} {M} {C} {a} {b} r opened stops caused damaged sound = record {
+    → IfErr r IsLinesStop → IfErr r (λ why. CausedBy why a b) → IfErr r (ByDamagedStep C a b) → ((table : Table) (was : List ℕ) → HoldsTable M a table was → IfErr r IsSoundStop)
+    → (r ≢ Err Disk → b.disk_faults ≡ a.disk_faults) → RunOn M C a b (result_err r)
+run_opened {S} {H} {T} {M} {C} {a} {b} r opened stops caused damaged sound told = record {
   caused = stop_is r (λ why. CausedBy why a b) caused;
   damaged = stop_is r (ByDamagedStep C a b) damaged;
   sound = λ table was on. stop_is r IsSoundStop (sound table was on);
@@ -191,7 +196,37 @@ run_opened {S} {H} {T} {M} {C} {a} {b} r opened stops caused damaged sound = rec
   bad_kept = λ part is. absurd (lines_good r part stops is);
   unopened = λ image part holds fails. absurd (good image part holds fails);
   left = λ image part holds fails. absurd (good image part holds fails);
+  told = λ other. told (λ is. other (ap result_err is));
 }
   where
     good : (image : List ℕ) (part : Part) → a.disk ≡ Some image → M.FirstBad image part → ⊥
     good image part holds fails = let stands = opened image holds in M.no_table image stands.0 part stands.1 fails
+
+-- ---- how it began
+
+-- The opening answered a volume,
+pub opens_first : {S H : Type 0} {M : Meaning S} {C : Conduct S H} {Fresh : View S → Type 0} {Does : Outside → Outside → Option OpenFault → Type 0} {a b : Outside} {session : S} (then : H) (ending : Option Stopped)
+    → Does a (C.outside then) None → DiskOnly a (C.outside then) → Goes (C.outside then) b
+    → ((image : List ℕ) (table : Table) → IsTrue a.honest → a.disk ≡ Some image → M.StandsFor image table → Opened M Fresh table session (C.outside then)) → RunOpens M C Fresh Does a b ending
+opens_first {session = session} then ending did only later shows = record {
+  then = then;
+  fault = None;
+  did = did;
+  only = only;
+  later = later;
+  shows = λ none table was on. (session, shows on.image table on.honest on.holds on.stands);
+  failed = tt;
+}
+
+-- or a fault.
+pub opens_none : {S H : Type 0} {M : Meaning S} {C : Conduct S H} {Fresh : View S → Type 0} {Does : Outside → Outside → Option OpenFault → Type 0} {a : Outside} (then : H) (fault : OpenFault)
+    → Does a (C.outside then) (Some fault) → DiskOnly a (C.outside then) → RunOpens M C Fresh Does a (C.outside then) (Some (unopened_as fault))
+opens_none {C = C} then fault did only = record {
+  then = then;
+  fault = Some fault;
+  did = did;
+  only = only;
+  later = goes_refl (C.outside then);
+  shows = λ none. absurd (cc);
+  failed = (refl, reads_refl (C.outside then));
+}

@@ -1,18 +1,20 @@
 -- What a whole run promises, from the opening of the volume to the last line that was taken.
-use Rattle.std.specs.Prelude.{◌≡◌, ◌⊎◌, ◌≤◌, ℕ, IsTrue, IfSome, Option, Some, None, List, [], ◌++◌}
-use Rattle.disk_model.specs.Outside.{Outside, Along, Only, WritesNothing}
+use Rattle.std.specs.Prelude.{◌≡◌, ◌≢◌, ◌⊎◌, ◌≤◌, ℕ, IsTrue, IfSome, Option, Some, None, List, [], ◌++◌}
+use Rattle.disk_model.specs.Outside.{Outside, Along, Only, WritesNothing, DiskOnly, Goes, ReadsOnly}
 use Rattle.table_model.specs.declared.table.Table.{Table}
 use Rattle.script_lang.specs.Reading.{Reading}
+use Rattle.session_views.specs.declared.OpenFault.{OpenFault}
 use Rattle.session_views.specs.declared.Part.{Part}
 use Rattle.session_views.specs.View.{View, Meaning}
 use Rattle.session_views.specs.Opening.{IsStart}
 use Rattle.engines.specs.Keeping.{Conduct}
+use Rattle.talks.specs.Opening.{Opened}
 use Rattle.talks.specs.Passage.{ByDamagedStep}
-use Rattle.talks.specs.Stops.{CausedBy, IsOpeningStop, IsSoundStop}
+use Rattle.talks.specs.Stops.{CausedBy, IsOpeningStop, IsSoundStop, unopened_as}
 use Rattle.talks.specs.Talking.{Talking, HasTalked}
 use Rattle.talks.specs.Transcript.{Row, ShowsAt, Trail, IsRunMoment, LastKept, LastText, Ended, exchanges, last_time, output_of, request_in}
 use Rattle.talks.specs.declared.stopped.Stopped.{Stopped}
-use Rattle.talks.specs.declared.stopped.Stopped.TheVariants.{Output, BadVolume}
+use Rattle.talks.specs.declared.stopped.Stopped.TheVariants.{Output, Disk, BadVolume}
 
 -- An honest disk holds an image that stands for this table, and the sink tells what it was sent.
 pub record HoldsTable {S : Type 0} (M : Meaning S) (entry : Outside) (table : Table) (was : List ℕ) : Type 0 where
@@ -86,3 +88,17 @@ pub record RunOn {S H : Type 0} (M : Meaning S) (C : Conduct S H) (before after 
       → (after.disk ≡ Some image) × Only image after.images
   pub unopened : (image : List ℕ) (part : Part) → before.disk ≡ Some image → M.FirstBad image part → (why : Stopped) × (ending ≡ Some why) × IsOpeningStop why
   pub left : (image : List ℕ) (part : Part) → before.disk ≡ Some image → M.FirstBad image part → WritesNothing before after
+  -- A fault of the disk is told: with any other ending none came.
+  pub told : ending ≢ Some Disk → after.disk_faults ≡ before.disk_faults
+
+-- A run begins with the opening of its volume. It was over on this host, with a fault or with none, and did what openings do.
+pub record RunOpens {S H : Type 0} (M : Meaning S) (C : Conduct S H) (Fresh : View S → Type 0) (Does : Outside → Outside → Option OpenFault → Type 0) (before after : Outside) (ending : Option Stopped) : Type 0 where
+  pub then : H
+  pub fault : Option OpenFault
+  pub did : Does before (C.outside then) fault
+  pub only : DiskOnly before (C.outside then)
+  pub later : Goes (C.outside then) after
+  -- Where a volume was opened a view shows it there, with its table at its start and nothing else.
+  pub shows : fault ≡ None → (table : Table) (was : List ℕ) → HoldsTable M before table was → (session : S) × Opened M Fresh table session (C.outside then)
+  -- Where none was the run ended by that fault, and the disk was read at most since.
+  pub failed : IfSome fault (λ why. (ending ≡ Some (unopened_as why)) × ReadsOnly (C.outside then) after)

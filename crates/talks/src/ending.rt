@@ -1,11 +1,12 @@
 //! The end of a script.
-ghost use Rattle.std.specs.Prelude.{◌≡◌, OnOk, IfErr};
+ghost use Rattle.std.specs.Prelude.{◌≡◌, ◌≢◌, Err, OnOk, IfErr};
 ghost use Rattle.disk_model.specs.Outside.{DiskOnly, Leaves};
 ghost use Rattle.session_views.specs.View.{View, ShowsNow};
 ghost use Rattle.engines.specs.Keeping.{conduct};
 ghost use Rattle.talks.specs.Passage.{ByDamagedStep};
 ghost use Rattle.talks.specs.Stops.{CausedBy, IsSessionStop, IsSoundStop};
 ghost use Rattle.talks.specs.Transcript.{Ended, StoppedAbort};
+ghost use Rattle.talks.specs.declared.stopped.Stopped.TheVariants.{Disk};
 
 use crate::stopped::{Stopped, stopped_by};
 use disk_model::Host;
@@ -23,6 +24,8 @@ pub(crate) fn abort_open<E: Engine, H: Host>(
     requires room { E.fits session.old (H.outside host.old).size }
     ensures only { DiskOnly (H.outside host.old) (H.outside host.new) }
     ensures caused { IfErr result (λ why. CausedBy why (H.outside host.old) (H.outside host.new)) }
+    ensures told { result ≢ Err Disk
+        → (H.outside host.new).disk_faults ≡ (H.outside host.old).disk_faults }
     ensures damaged { IfErr result (ByDamagedStep (conduct H.outside E.keeps)
         (H.outside host.old) (H.outside host.new)) }
     ensures stops { IfErr result IsSessionStop }

@@ -1,11 +1,12 @@
 //! A session steps on lines, whoever hands them in.
-ghost use Rattle.std.specs.Prelude.{◌≡◌, ◌⊎◌, List, ℕ, OnOk, IfErr};
+ghost use Rattle.std.specs.Prelude.{◌≡◌, ◌≢◌, ◌⊎◌, List, ℕ, Err, OnOk, IfErr};
 ghost use Rattle.disk_model.specs.Outside.{Goes};
 ghost use Rattle.session_views.specs.View.{View};
 ghost use Rattle.engines.specs.Keeping.{conduct};
 ghost use Rattle.talks.specs.Passage.{ByDamagedStep, Ran, WasCut};
 ghost use Rattle.talks.specs.Stops.{CausedBy, IsLinesStop, IsSessionStop, IsSoundStop};
 ghost use Rattle.talks.specs.Transcript.{Opens};
+ghost use Rattle.talks.specs.declared.stopped.Stopped.TheVariants.{Disk};
 
 use crate::stopped::{Stopped, stopped_by};
 use crate::talk::{Asked, Talk};
@@ -31,6 +32,8 @@ pub(crate) fn step_lines<E: Engine, T: Talk, H: Host>(
     ensures cut { IfErr result (λ why. WasCut E.meaning (conduct H.outside E.keeps) T.talking
         (H.outside host.old) (H.outside host.new) session.old talk.old why) }
     ensures caused { IfErr result (λ why. CausedBy why (H.outside host.old) (H.outside host.new)) }
+    ensures told { result ≢ Err Disk
+        → (H.outside host.new).disk_faults ≡ (H.outside host.old).disk_faults }
     ensures damaged { IfErr result (ByDamagedStep (conduct H.outside E.keeps)
         (H.outside host.old) (H.outside host.new)) }
     ensures stops { IfErr result IsLinesStop }

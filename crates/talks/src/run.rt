@@ -4,7 +4,7 @@ ghost use Rattle.std.specs.Result.{result_err};
 ghost use Rattle.disk_model.specs.Outside.{DiskOnly, Goes};
 ghost use Rattle.table_model.specs.declared.table.Table.{Table};
 ghost use Rattle.engines.specs.Keeping.{conduct};
-ghost use Rattle.talks.specs.Headline.{RunOn, RunStarts, TalkHeadline};
+ghost use Rattle.talks.specs.Headline.{RunOn, RunOpens, RunStarts, TalkHeadline};
 ghost use Rattle.talks.specs.Passage.{IsBroken, IsOver};
 ghost use Rattle.talks.specs.Stops.{IsOpeningStop, IsSessionStop};
 
@@ -45,6 +45,10 @@ pub fn run_talk<E: Opener + Drop, T: Talk, H: Host>(
     // The opening stopped it, or the session, or the talk itself.
     ensures whence { IfErr result
         (λ why. IsOpeningStop why ⊎ (IsSessionStop why ⊎ T.fails why)) }
+
+    // First the volume was opened, and that did what openings do.
+    ensures opened { RunOpens E.meaning (conduct H.outside E.keeps) E.fresh E.opens
+        (H.outside host.old) (H.outside host.new) (result_err result) }
 {
     let mut session = E::open(alloc, host)?;
     step_lines(alloc, &mut session, talk, host)?;

@@ -73,6 +73,8 @@ pub fn step_line<E: Engine, H: Host>(
     ensures only { DiskOnly (H.outside host.old) (H.outside host.new) }
     ensures disk { result ≡ Err (Stopped Stop.Disk)
         → Rose (H.outside host.old).disk_faults (H.outside host.new).disk_faults }
+    ensures told { result ≢ Err (Stopped Stop.Disk)
+        → (H.outside host.new).disk_faults ≡ (H.outside host.old).disk_faults }
     ensures damaged { (page : PageNo) (want got : Seen)
         → result ≡ Err (Stopped (Stop.Damaged page want got)) → want ≢ got }
 

@@ -1,13 +1,13 @@
 use Rattle.history_dump.specs.declared.fault.DumpFault.{DumpFault}
 use Rattle.history_dump.proofs.Faults.{damage_told, cause_later}
-use Rattle.std.proofs.Common.{vec_len, ◌≡◌, ℕ, List, ◌++◌, length, take, Some, inr, ap, ◌∙◌, arith, inl, subst}
+use Rattle.std.proofs.Common.{vec_len, ◌≡◌, ℕ, List, ◌++◌, length, take, Err, Some, inr, ap, ◌∙◌, arith, inl, subst}
 use Rattle.std.proofs.lemmas.Result.{IfErr-weaker}
 use Rattle.volume_model.specs.Volume.{table_of, units_of}
 use Rattle.history_model.specs.Stream.{stream_of}
-use Rattle.history_dump.specs.Sending.{SendsFront, SendsWhole, TellsDamage}
+use Rattle.history_dump.specs.Sending.{SendsFront, SendsWhole, TellsDamage, dump_fault}
 use Rattle.history_dump.proofs.OutsidesSent.{sends_none, sends_read, sends_trans}
 use Rattle.history_dump.proofs.Pieces.{same_stream, sending_on, rest_on, room_on}
-use Rattle.history_dump.proofs.Results.{match_of}
+use Rattle.history_dump.proofs.Results.{err_same, match_of}
 use Rattle.history_dump.proofs.Streaming.{stream_short, streams}
 use Rattle.history_dump.proofs.sending.send_dump.Goals as goal
 
@@ -105,3 +105,12 @@ returns-in-Err-clause-sound g c = λ damage d disk rests. c.in-Err.ensures.sound
 
 pub send_pieces-requires-clause-room : goal.send_pieces-requires-clause-room
 send_pieces-requires-clause-room g c = omega (arith, room_on c.args.volume.now c.plan_stream.new.volume (vec_len c.in-Ok.dumper.room) c.plan_stream.ensures.keeps.rest c.in-Ok.ensures.room)
+
+pub returns-in-Err-clause-told : goal.returns-in-Err-clause-told
+returns-in-Err-clause-told g c other = c.in-Err.ensures.told (λ is. other (ap (λ f. Err f) (c.told_of.ensures ∙ ap dump_fault (err_same is))))
+
+pub returns-in-Err-piece_room-clause-told : goal.returns-in-Err-piece_room-clause-told
+returns-in-Err-piece_room-clause-told g c other = c.in-Ok.ensures.told (λ is. cc)
+
+pub returns-clause-told : goal.returns-clause-told
+returns-clause-told g c other = c.send_pieces.ensures.told other ∙ c.in-Ok.ensures.told (λ is. cc)

@@ -1,12 +1,12 @@
-use Rattle.std.proofs.Common.{◌≡◌, ◌+◌, ◌-◌, ℕ, length, take, refl, sym, subst, ap, ◌∙◌, arith}
+use Rattle.std.proofs.Common.{◌≡◌, ◌+◌, ◌-◌, ℕ, Err, length, take, refl, sym, subst, ap, ◌∙◌, arith}
 use Rattle.std.proofs.lemmas.List.{length-take}
 use Rattle.history_model.specs.Stream.{stream_of}
-use Rattle.history_dump.specs.Sending.{IsSending, TellsDamage}
+use Rattle.history_dump.specs.Sending.{IsSending, TellsDamage, dump_fault}
 use Rattle.history_dump.specs.declared.fault.DumpFault.{DumpFault}
 use Rattle.history_dump.proofs.OutsidesSent.{sends_none, sends_read, sends_sent}
 use Rattle.history_dump.proofs.Faults.{damage_told}
 use Rattle.history_dump.proofs.Pieces.{HasSent, filled, pieces_end, rest_on, room_on, same_stream, sending_on, sent_all, sent_few, sent_more, sent_none, sent_part}
-use Rattle.history_dump.proofs.Results.{never_ok}
+use Rattle.history_dump.proofs.Results.{err_same, never_ok}
 use Rattle.history_dump.proofs.PortShown.{read_sent, rest_sent}
 use Rattle.history_dump.proofs.sending.send_pieces.Goals as goal
 
@@ -14,6 +14,7 @@ pub pieces-init : goal.pieces-init
 pieces-init g c = record {
   sends = sends_none (g.H.World.outside c.args.host.now) (g.H.World.is_world c.args.host.now);
   rest = refl;
+  same = refl;
   ready = c.requires.ready;
   room = c.requires.room;
   long = c.requires.long;
@@ -87,6 +88,7 @@ pieces-preserved g c =
     record {
       sends = sends_sent (sends_read inv.sends keeps.only) c.send_all.ensures.only;
       rest = rest_on i n m inv.rest keeps.rest;
+      same = c.send_all.ensures.only.disk_faults ∙ c.in-Ok.ensures.told (λ is. cc) ∙ inv.same;
       ready = read_sent o w m c.send_all.ensures.only keeps.ready;
       room = omega (arith, room_on n m _ keeps.rest inv.room, c.fill_piece.ensures.room);
       long = omega (arith, c.fill_piece.auto.piece, inv.long);
@@ -182,3 +184,18 @@ returns-in-Err-clause-rest g c = rest_on c.args.volume.now c.pieces.volume c.fil
 
 pub returns-then-len-eq0-clause-rest : goal.returns-then-len-eq0-clause-rest
 returns-then-len-eq0-clause-rest g c = rest_on c.args.volume.now c.pieces.volume c.fill_piece.new.volume c.pieces.invariant.rest c.fill_piece.ensures.keeps.rest
+
+-- ---- a fault of the disk is told
+
+pub returns-in-Err-clause-told : goal.returns-in-Err-clause-told
+returns-in-Err-clause-told g c other =
+    c.in-Err.ensures.told (λ is. other (ap (λ f. Err f) (c.told_of.ensures ∙ ap dump_fault (err_same is)))) ∙ c.pieces.invariant.same
+
+pub returns-then-len-eq0-clause-told : goal.returns-then-len-eq0-clause-told
+returns-then-len-eq0-clause-told g c other = c.in-Ok.ensures.told (λ is. cc) ∙ c.pieces.invariant.same
+
+pub returns-in-Err-send_all-clause-told : goal.returns-in-Err-send_all-clause-told
+returns-in-Err-send_all-clause-told g c other = c.send_all.ensures.only.disk_faults ∙ c.in-Ok.ensures.told (λ is. cc) ∙ c.pieces.invariant.same
+
+pub returns-clause-told : goal.returns-clause-told
+returns-clause-told g c other = c.pieces.invariant.same

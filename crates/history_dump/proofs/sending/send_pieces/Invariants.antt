@@ -13,6 +13,7 @@ invariant-pieces g l = record {
   sends : ReadsAndSends (g.H.World.outside l.initial.host) (g.H.World.outside l.host);
   rest : l.volume ≡ record l.initial.volume { groups = l.volume.groups };
   ready : CanRead l.volume.geometry (g.H.World.outside l.host).size l.volume.groups 0 l.volume.meta;
+  same : (g.H.World.outside l.host).disk_faults ≡ (g.H.World.outside l.initial.host).disk_faults;
   room : item_most l.volume.geometry ≤ vec_len l.dumper.room;
   long : length l.piece ≡ 65536;
   rests : (d : Decoded) (disk : List ℕ) → IsAtRest (g.H.World.outside l.initial.host) l.initial.volume d disk → IsAtRest (g.H.World.outside l.host) l.volume d disk;

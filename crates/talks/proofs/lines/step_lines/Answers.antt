@@ -1,4 +1,4 @@
-use Rattle.std.proofs.Common.{rules, ◌≡◌, Some, None, [], ◌∷◌, ◌++◌, inl, inr, sym, subst, refl}
+use Rattle.std.proofs.Common.{rules, ◌≡◌, ◌∙◌, Some, None, [], ◌∷◌, ◌++◌, inl, inr, sym, subst, refl}
 use Rattle.std.proofs.lemmas.Result.{err_from_is_err_and}
 use Rattle.disk_model.specs.Runs.{goes_refl, goes_trans}
 use Rattle.table_model.specs.Requests.{request_of}
@@ -9,7 +9,7 @@ use Rattle.talks.specs.Talking.{Left}
 use Rattle.talks.specs.Talking as talking
 use Rattle.engines.specs.Keeping.{conduct}
 use Rattle.talks.proofs.Rows.{line_just_kept, step_just_kept}
-use Rattle.talks.proofs.Stopping.{session_damaged, session_stop, session_part, session_lines, sending_lines, sending_sound, sending_undamaged, taking_lines, taking_sound, taking_undamaged, disk_or_memory}
+use Rattle.talks.proofs.Stopping.{session_damaged, session_stop, session_told, session_part, session_lines, sending_lines, sending_sound, sending_undamaged, taking_lines, taking_sound, taking_undamaged, disk_or_memory}
 use Rattle.talks.proofs.Going.{reached_start, reached_taken, reached_answered, reached_refused, reply_of_step, cut_taken, cut_step, cut_answered, cut_refused}
 use Rattle.talks.proofs.lines.step_lines.Goals.{in-Refused, in-Step+in-Ok}
 use Rattle.talks.proofs.lines.step_lines.Goals as goal
@@ -19,6 +19,7 @@ lines-init g c = record {
   up = c.requires.up;
   room = c.requires.room;
   goes = goes_refl (g.H.World.outside c.args.host.now);
+  same = refl;
   so_far = record {
     had = [];
     talked = g.T.Talk.talking.begun c.args.talk.now (g.H.World.outside c.args.host.now).left;
@@ -62,6 +63,9 @@ returns-in_err-advance-clause-sound g c opening was same opens =
     let p = err_from_is_err_and c.from_residual.result c.from_residual.ensures.1 in
     rw (p.1, p.2) (taking_sound c.in_err-advance.field-0.0 c.in_err-advance.ensures.stops)
 
+pub returns-in_err-advance-clause-told : goal.returns-in_err-advance-clause-told
+returns-in_err-advance-clause-told g c = λ other. c.advance.ensures.only.disk_faults ∙ c.lines.invariant.same
+
 -- ---- a line was taken
 
 pub lines-preserved-in-Nothing : goal.lines-preserved-in-Nothing
@@ -71,6 +75,7 @@ lines-preserved-in-Nothing g c =
       up = c.lines.invariant.up;
       room = subst (g.E.Engine.fits c.lines.session) (sym c.advance.ensures.only.goes.size) c.lines.invariant.room;
       goes = goes_trans c.lines.invariant.goes c.advance.ensures.only.goes;
+      same = c.advance.ensures.only.disk_faults ∙ c.lines.invariant.same;
       so_far = record {
         had = old.had;
         talked = g.T.Talk.talking.quiet c.args.talk.now c.advance.new.self (g.H.World.outside c.args.host.now).left (g.H.World.outside c.advance.new.host).left old.had waits c.in-Nothing.ensures.asked;
@@ -119,6 +124,9 @@ returns-in-Err-clause-sound g c opening was same opens =
     let so_far = reached_taken (g.H.World.is_world c.lines.host) c.advance.ensures.only (c.lines.invariant.so_far.reached opening was same opens) in
     disk_or_memory c.in-Err.stop c.stopped_by.result c.stopped_by.ensures (c.in-Err.ensures.sound so_far.view c.in-Err.stop so_far.is so_far.shows refl)
 
+pub returns-in-Err-clause-told : goal.returns-in-Err-clause-told
+returns-in-Err-clause-told g c = λ other. c.in-Err.ensures.told (λ is. other (session_told c.in-Err.stop c.stopped_by.result c.stopped_by.ensures is)) ∙ c.advance.ensures.only.disk_faults ∙ c.lines.invariant.same
+
 -- ---- a reply was told
 
 pub lines-preserved : goal.lines-preserved
@@ -134,6 +142,7 @@ lines-preserved g c =
     let world = g.H.World.is_world c.tell.new.host in
     let waits = c.in_ok-advance.ensures.taken (search rules) first entry.left old.had old.talked in
     let goes_b = goes_trans c.lines.invariant.goes c.advance.ensures.only.goes in
+    let same_b = c.advance.ensures.only.disk_faults ∙ c.lines.invariant.same in
     let room_b = subst (g.E.Engine.fits c.lines.session) (sym c.advance.ensures.only.goes.size) c.lines.invariant.room in
     elim c.match-asked.branch [
       | in-Refused w ↦
@@ -145,6 +154,7 @@ lines-preserved g c =
             up = c.lines.invariant.up;
             room = subst (g.E.Engine.fits c.lines.session) (sym sent.only.goes.size) room_b;
             goes = goes_trans goes_b sent.only.goes;
+            same = sent.only.disk_faults ∙ same_b;
             so_far = record {
               had = old.had ++ record { reading = Fails why; told = reply.No why; text = K.text at (reply.No why) } ∷ [];
               talked = had first entry.left old.had (Fails why) waits w.in-Refused.ensures.asked tt;
@@ -162,6 +172,7 @@ lines-preserved g c =
             up = w.in-Ok.ensures.stays_up;
             room = subst (g.E.Engine.fits w.step.new.self) (sym sent.only.goes.size) w.step.ensures.room;
             goes = goes_trans (goes_trans goes_b w.step.ensures.only.goes) sent.only.goes;
+            same = sent.only.disk_faults ∙ w.in-Ok.ensures.told (λ is. cc) ∙ same_b;
             so_far = record {
               had = old.had ++ record { reading = Asks r; told = told; text = K.text at told } ∷ [];
               talked = had first entry.left old.had (Asks r) waits w.in-Step.ensures.asked tt;
@@ -238,6 +249,14 @@ returns-in_err-tell-clause-sound g c opening was same opens =
     let p = err_from_is_err_and c.from_residual-in_err-tell.result c.from_residual-in_err-tell.ensures.1 in
     rw (p.1, p.2) (sending_sound c.in_err-tell.field-0.0 c.in_err-tell.ensures.stops)
 
+pub returns-in_err-tell-clause-told : goal.returns-in_err-tell-clause-told
+returns-in_err-tell-clause-told g c =
+    let same_b = c.advance.ensures.only.disk_faults ∙ c.lines.invariant.same in
+    elim c.match-asked.branch [
+      | in-Refused w ↦ λ other. (rw w.host-is at c.in_err-tell.ensures.part).front.only.disk_faults ∙ same_b
+      | in-Step+in-Ok w ↦ λ other. (rw w.host-is at c.in_err-tell.ensures.part).front.only.disk_faults ∙ w.in-Ok.ensures.told (λ is. cc) ∙ same_b
+    ]
+
 -- ---- the talk is over
 
 pub returns-clause-whole : goal.returns-clause-whole
@@ -250,3 +269,6 @@ returns-clause-whole g c =
 
 pub returns-clause-room : goal.returns-clause-room
 returns-clause-room g c = subst (g.E.Engine.fits c.lines.session) (sym c.advance.ensures.only.goes.size) c.lines.invariant.room
+
+pub returns-clause-told : goal.returns-clause-told
+returns-clause-told g c = λ other. c.advance.ensures.only.disk_faults ∙ c.lines.invariant.same

@@ -1,4 +1,5 @@
-use Rattle.std.proofs.Common.{Err, None, inl, inr, sym, ap, subst}
+use Rattle.std.proofs.Common.{◌∙◌, Err, None, inl, inr, sym, ap, subst, Some}
+use Rattle.std.specs.Result.{result_err}
 use Rattle.std.proofs.lemmas.Result.{err_from_is_err_and, IfOk-at_ok, IfErr-at_err, IfErr-weaker}
 use Rattle.disk_model.specs.Runs.{goes_trans}
 use Rattle.talks.specs.Headline.{TalkHeadline}
@@ -8,8 +9,8 @@ use Rattle.talks.specs.Passage.{ByDamagedStep}
 use Rattle.talks.specs.Talking.{Left}
 use Rattle.talks.specs.Transcript.{StoppedAbort}
 use Rattle.talks.proofs.Going.{cut_ending}
-use Rattle.talks.proofs.Stopping.{by_ending, caused_later, damaged_since, if_err_from, opening_stop, session_lines, session_part}
-use Rattle.talks.proofs.Whole.{leaves_table, run_opened, run_unopened, unopened, opens_of, stepped_whole, stepped_cut}
+use Rattle.talks.proofs.Stopping.{by_ending, caused_later, damaged_since, err_same, if_err_from, opening_stop, session_lines, session_part}
+use Rattle.talks.proofs.Whole.{leaves_table, run_opened, run_unopened, unopened, opens_of, stepped_whole, stepped_cut, opens_first, opens_none}
 use Rattle.talks.proofs.run.run_talk.Goals as goal
 
 -- ---- the volume wasn't opened
@@ -24,7 +25,8 @@ pub returns-in_err-session-clause-on : goal.returns-in_err-session-clause-on
 returns-in_err-session-clause-on g c =
     let p = err_from_is_err_and c.from_residual.result c.from_residual.ensures.1 in
     rw (p.1, p.2) (run_unopened c.in_err-session.field-0.0 (λ is. c.in_err-session.ensures.disk (ap (λ f. Err f) is)) (λ part is. c.in_err-session.ensures.bad part (ap (λ f. Err f) is))
-    (λ part is. c.in_err-session.ensures.unwritten part (ap (λ f. Err f) is)) (λ part is. c.in_err-session.ensures.kept part (ap (λ f. Err f) is)) c.open.ensures.left)
+    (λ part is. c.in_err-session.ensures.unwritten part (ap (λ f. Err f) is)) (λ part is. c.in_err-session.ensures.kept part (ap (λ f. Err f) is)) c.open.ensures.left
+    (λ other. c.in_err-session.ensures.told (λ is. other (err_same is))))
 
 pub returns-in_err-session-clause-broken : goal.returns-in_err-session-clause-broken
 returns-in_err-session-clause-broken g c =
@@ -62,7 +64,8 @@ returns-in_err-step_lines-clause-on g c =
     (damaged_since _ why c.open.ensures.only.goes c.in_err-step_lines.ensures.damaged)
     (λ table was on.
     let opened = c.in_ok-session.ensures.shows on.image table on.honest on.holds on.stands in
-    c.in_err-step_lines.ensures.sound opened.view was opened.is (opens_of on c.open.ensures.only opened)))
+    c.in_err-step_lines.ensures.sound opened.view was opened.is (opens_of on c.open.ensures.only opened))
+    (λ other. c.in_err-step_lines.ensures.told (λ is. other (ap (λ f. Err f) (err_same is))) ∙ c.in_ok-session.ensures.told (λ is. cc)))
 
 pub returns-in_err-step_lines-clause-whence : goal.returns-in_err-step_lines-clause-whence
 returns-in_err-step_lines-clause-whence g c =
@@ -109,6 +112,7 @@ returns-clause-on g c =
     let opened = c.in_ok-session.ensures.shows on.image table on.honest on.holds on.stands in
     let so_far = c.in_ok-step_lines.ensures.whole.reached opened.view was opened.is (opens_of on c.open.ensures.only opened) in
     c.abort_open.ensures.sound so_far.view so_far.is so_far.shows)
+    (λ other. c.abort_open.ensures.told other ∙ c.in_ok-step_lines.ensures.told (λ is. cc) ∙ c.in_ok-session.ensures.told (λ is. cc))
 
 pub returns-clause-broken : goal.returns-clause-broken
 returns-clause-broken g c = if_err_from c.abort_open.result _ (λ why is.
@@ -124,3 +128,19 @@ returns-clause-broken g c = if_err_from c.abort_open.result _ (λ why is.
 
 pub returns-clause-whence : goal.returns-clause-whence
 returns-clause-whence g c = if_err_from c.abort_open.result _ (λ why is. inr (inl (IfErr-at_err IsSessionStop is c.abort_open.ensures.stops)))
+
+-- ---- how it began
+
+pub returns-in_err-session-clause-opened : goal.returns-in_err-session-clause-opened
+returns-in_err-session-clause-opened g c =
+    let p = err_from_is_err_and c.from_residual.result c.from_residual.ensures.1 in
+    rw (p.1, p.2) (opens_none c.open.new.host c.in_err-session.field-0.0 c.in_err-session.ensures.does c.open.ensures.only)
+
+pub returns-in_err-step_lines-clause-opened : goal.returns-in_err-step_lines-clause-opened
+returns-in_err-step_lines-clause-opened g c =
+    let p = err_from_is_err_and c.from_residual-in_err-step_lines.result c.from_residual-in_err-step_lines.ensures.1 in
+    rw (p.1, p.2) (opens_first c.open.new.host (Some c.in_err-step_lines.field-0.0) c.in_ok-session.ensures.does c.open.ensures.only c.step_lines.ensures.goes c.in_ok-session.ensures.shows)
+
+pub returns-clause-opened : goal.returns-clause-opened
+returns-clause-opened g c =
+    opens_first c.open.new.host (result_err c.abort_open.result) c.in_ok-session.ensures.does c.open.ensures.only (goes_trans c.step_lines.ensures.goes c.abort_open.ensures.only.goes) c.in_ok-session.ensures.shows

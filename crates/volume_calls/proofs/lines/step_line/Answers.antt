@@ -40,3 +40,6 @@ returns-in-Ok-clause-untold g c before reading same shows reads is =
 pub returns-in-Err-clause-untold : goal.returns-in-Err-clause-untold
 returns-in-Err-clause-untold g c before reading same shows reads is =
     subst (λ (x : Reading). WasDone g.E.Engine.meaning before x c.args.session.now (g.H.World.outside c.args.host.now)) (sym (c.in-Err.ensures.one reading reads)) (sym same, shows)
+
+pub returns-in-Ok-clause-told : goal.returns-in-Ok-clause-told
+returns-in-Ok-clause-told g c other = c.in-Ok.ensures.told (λ is. cc)

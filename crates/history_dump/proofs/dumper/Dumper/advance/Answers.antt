@@ -91,3 +91,18 @@ returns-clause-cause g c = tt
 
 pub returns-then-is_end-clause-none : goal.returns-then-is_end-clause-none
 returns-then-is_end-clause-none g c = λ no. (left_none c.args.self.now (omega (arith, c.if-self.false)), sym c.is_end.ensures ∙ c.if-is_end.true)
+
+pub returns-then-self-clause-uncalled : goal.returns-then-self-clause-uncalled
+returns-then-self-clause-uncalled g c = λ told v h is.
+    absurd (omega (arith, end_left g.V.Ground c.args.volume.now v h c.args.self.now is, left_len c.args.self.now, c.if-self.true))
+
+pub returns-in-Err-clause-uncalled : goal.returns-in-Err-clause-uncalled
+returns-in-Err-clause-uncalled g c = λ told v h is.
+    absurd (let e : false ≡ true = sym (sym c.is_end.ensures ∙ c.if-is_end.false) ∙ ap is_end c.settled-position.ensures.is ∙ end_settled g.V.Ground c.args.volume.now v h c.args.self.now is in cc)
+
+pub returns-clause-uncalled : goal.returns-clause-uncalled
+returns-clause-uncalled g c = λ told v h is.
+    absurd (let e : false ≡ true = sym (sym c.is_end.ensures ∙ c.if-is_end.false) ∙ ap is_end c.settled-position.ensures.is ∙ end_settled g.V.Ground c.args.volume.now v h c.args.self.now is in cc)
+
+pub returns-then-is_end-clause-uncalled : goal.returns-then-is_end-clause-uncalled
+returns-then-is_end-clause-uncalled g c = λ told v h is. refl

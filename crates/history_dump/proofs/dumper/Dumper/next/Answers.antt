@@ -13,6 +13,7 @@ given-init g c = record {
   kept = keeps_refl g.V.Ground c.args.volume.now;
   room = refl;
   given = λ told v h at is. given_none g.V.Ground c.args.volume.now v h c.args.self.now at is;
+  uncalled = λ told v h is. refl;
 }
 
 pub returns-in-Err-clause-at_end : goal.returns-in-Err-clause-at_end
@@ -67,6 +68,16 @@ given-preserved g c = record {
       let here = back g.V.Ground was now kept v h c.advance.new.self (at + c.given.len) made in
       given_more g.V.Ground was v h c.advance.new.self c.give-len.new.self at c.given.len c.give-len.result c.given.out c.give-len.new.out _ here w.0 c.given.invariant.inside
       (omega (arith, c.give-len.ensures.n)) (omega (arith, c.give-len.ensures.n, c.give-len.auto.out)) c.give-len.ensures.given c.give-len.ensures.left c.give-len.ensures.rest.0 c.give-len.ensures.rest.1;
+  uncalled = λ told v h is.
+      let was = c.args.volume.now in
+      let now = c.given.volume in
+      let kept = c.given.invariant.kept in
+      let s = stream_of (g.V.Ground.geometry was) h in
+      let w = c.given.invariant.given told v h (length s) is in
+      let at : length s + c.given.len ≡ length s = omega (arith, w.1.gives.inside) in
+      let here = there g.V.Ground was now kept v h c.given.self (length s) (moved g.V.Ground was v h c.given.self (length s + c.given.len) (length s) w.1 at) in
+      let end = moved g.V.Ground now v h c.given.self (length s) (length (stream_of (g.V.Ground.geometry now) h)) here (sym (ap length (same_stream g.V.Ground was now kept v h))) in
+      c.advance.ensures.uncalled (g.V.Ground.leads_told was now kept.leads told) v h end ∙ c.given.invariant.uncalled told v h is;
 }
 
 pub returns-clause-given : goal.returns-clause-given
@@ -126,3 +137,32 @@ pub advance-requires-clause-room : goal.advance-requires-clause-room
 advance-requires-clause-room g c =
     let same = g.V.Ground.leads_geometry c.args.volume.now c.given.volume c.given.invariant.kept.leads in
     omega (arith, c.requires.room, ap item_most same, c.given.invariant.room)
+
+-- ---- at the end nothing is called
+
+pub returns-in-Err-clause-uncalled : goal.returns-in-Err-clause-uncalled
+returns-in-Err-clause-uncalled g c = λ told v h is.
+    let was = c.args.volume.now in
+    let now = c.given.volume in
+    let kept = c.given.invariant.kept in
+    let s = stream_of (g.V.Ground.geometry was) h in
+    let w = c.given.invariant.given told v h (length s) is in
+    let at : length s + c.given.len ≡ length s = omega (arith, w.1.gives.inside) in
+    let here = there g.V.Ground was now kept v h c.given.self (length s) (moved g.V.Ground was v h c.given.self (length s + c.given.len) (length s) w.1 at) in
+    let end = moved g.V.Ground now v h c.given.self (length s) (length (stream_of (g.V.Ground.geometry now) h)) here (sym (ap length (same_stream g.V.Ground was now kept v h))) in
+    c.advance.ensures.uncalled (g.V.Ground.leads_told was now kept.leads told) v h end ∙ c.given.invariant.uncalled told v h is
+
+pub returns-then-not-more-clause-uncalled : goal.returns-then-not-more-clause-uncalled
+returns-then-not-more-clause-uncalled g c = λ told v h is.
+    let was = c.args.volume.now in
+    let now = c.given.volume in
+    let kept = c.given.invariant.kept in
+    let s = stream_of (g.V.Ground.geometry was) h in
+    let w = c.given.invariant.given told v h (length s) is in
+    let at : length s + c.given.len ≡ length s = omega (arith, w.1.gives.inside) in
+    let here = there g.V.Ground was now kept v h c.given.self (length s) (moved g.V.Ground was v h c.given.self (length s + c.given.len) (length s) w.1 at) in
+    let end = moved g.V.Ground now v h c.given.self (length s) (length (stream_of (g.V.Ground.geometry now) h)) here (sym (ap length (same_stream g.V.Ground was now kept v h))) in
+    c.advance.ensures.uncalled (g.V.Ground.leads_told was now kept.leads told) v h end ∙ c.given.invariant.uncalled told v h is
+
+pub returns-clause-uncalled : goal.returns-clause-uncalled
+returns-clause-uncalled g c = c.given.invariant.uncalled

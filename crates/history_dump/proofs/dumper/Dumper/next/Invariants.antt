@@ -14,6 +14,8 @@ invariant-given g l = record {
   room : vec_len l.self.room ≡ vec_len l.initial.self.room;
   given : g.V.Ground.tells l.initial.volume → (v : Volume) (h : History) (at : ℕ) → IsWriting g.V.Ground l.initial.volume v h l.initial.self at
       → (take l.len l.out ≡ part (stream_of (g.V.Ground.geometry l.initial.volume) h) at l.len) × IsWriting g.V.Ground l.initial.volume v h l.self (at + l.len);
+  uncalled : g.V.Ground.tells l.initial.volume → (v : Volume) (h : History) → IsWriting g.V.Ground l.initial.volume v h l.initial.self (length (stream_of (g.V.Ground.geometry l.initial.volume) h))
+      → l.volume ≡ l.initial.volume;
 }
 
 abbrev pub decreases-given : goal.decreases-given

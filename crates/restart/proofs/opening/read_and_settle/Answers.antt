@@ -15,9 +15,9 @@ use Rattle.restart.proofs.AtRest.{rests_as}
 use Rattle.restart.proofs.LogOpened.{logged_homes, none_counts, parted_at, stays_as}
 use Rattle.restart.proofs.Opened.{all_closed, holds_same, holds_still, opened_on, opens_as, quiet_leaves, read_committed}
 use Rattle.restart.specs.Opening.{HoldsAs, InLogOrLogged, OpensAs, PartsMoments, ReadsAs, StaysAs}
-use Rattle.restart.proofs.opening.open_volume.Given as given
-use Rattle.restart.proofs.opening.open_volume.Goals as goal
-use Rattle.restart.proofs.opening.open_volume.Goals.{After-checkpoint}
+use Rattle.restart.proofs.opening.read_and_settle.Given as given
+use Rattle.restart.proofs.opening.read_and_settle.Goals as goal
+use Rattle.restart.proofs.opening.read_and_settle.Goals.{After-checkpoint}
 
 pub returns-in_default-clause-any_moment : goal.returns-in_default-clause-any_moment
 returns-in_default-clause-any_moment g c image honest holds =
