@@ -8,7 +8,7 @@ use Rattle.disk_model.specs.Runs.{along_sink, along_wider}
 use Rattle.table_model.specs.declared.reply.Reply.{Reply}
 use Rattle.table_model.specs.declared.table.Table.{Table}
 use Rattle.session_views.specs.declared.part.Part.{Part}
-use Rattle.talks.specs.Headline.{RunOn, RunStarts, SteppedTalk, TalkHeadline}
+use Rattle.talks.specs.Headline.{RunOn, RunOpens, RunStarts, SteppedTalk, TalkHeadline}
 use Rattle.talks.specs.Passage.{IsBroken, IsOver}
 use Rattle.talks.specs.Stops.{CausedBy, IsOpeningStop, IsSessionStop, IsSoundStop}
 use Rattle.talks.specs.Transcript.{Row, IsRunMoment, exchanges, output_of, request_in}
@@ -28,11 +28,13 @@ use Rattle.session_core.specs.Sessions.{SessionState}
 use Rattle.volume_model.specs.Parts.{FirstBad}
 use Rattle.command_line.specs.declared.status.Status.{Status}
 use Rattle.command_line.specs.declared.status.Status.TheVariants as status
+use Rattle.exsm_run.specs.Begun.{OpensVolume}
 use Rattle.exsm_run.specs.Check.{IsLineStatus}
 use Rattle.exsm_run.specs.Fresh.{IsFresh}
 use Rattle.exsm_run.specs.Kept.{volume_steps}
 use Rattle.exsm_run.specs.Generate.{Answered, GenPromise, StandsForOne, StopsUntold, ToldOf}
 use Rattle.exsm_run.specs.Script.{IsOnVolume, status_of}
+use Rattle.exsm_run.proofs.Begun.{begins_as, begins_on}
 use Rattle.exsm_run.proofs.Checking.{SentLine, line_good, line_ends, line_undamaged}
 use Rattle.exsm_run.proofs.Ending.{damaged_of, opening_of, starts_on}
 
@@ -137,8 +139,8 @@ stopped_in seed count first talk why script (inr u) = inr (why, refl, u)
 pub gen_stopped : {H : Type 0} {outside : H → Outside} {a b : Outside} (seed count : ℕ) (first : Generated) (talk : Generated) (why : Stopped) → IsWorld a → to_come first.lines ≡ generated seed count → StopsGen why
     → ((table : Table) (was : List ℕ) → RunStarts meant a table was → TalkHeadline meant (volume_steps outside) IsFresh generated_talking first talk table was a b (Some why))
     → (IsBroken generated_talking first a.left why b.left ⊎ (IsOpeningStop why × DiskOnly a b))
-    → RunOn meant (volume_steps outside) a b (Some why) → GenPromise outside seed count a b (status_of 0 (Some why))
-gen_stopped {H} {outside} {a} {b} seed count first talk why world script whence headline broken on = record {
+    → RunOn meant (volume_steps outside) a b (Some why) → RunOpens meant (volume_steps outside) IsFresh OpensVolume a b (Some why) → GenPromise outside seed count a b (status_of 0 (Some why))
+gen_stopped {H} {outside} {a} {b} seed count first talk why world script whence headline broken on opens = record {
   done = λ table was on is. absurd (no_done why is);
   front = λ table was on is. absurd (no_output why whence is);
   nothing = λ table was on done output. sent_none (Some why) (λ is. not_output why whence (cc)) (headline table was (starts_on on));
@@ -150,6 +152,7 @@ gen_stopped {H} {outside} {a} {b} seed count first talk why world script whence 
       (λ is. may.no_disk_fault (subst (λ (w : Stopped). CausedBy w a b) (disk_is why is) on.caused));
   damaged = λ page want got is. damaged_of (volume_steps outside) 0 (Some why) on.damaged page want got is;
   opening = opening_of 0 (Some why) world on;
+  begins = begins_as 0 (Some why) (status_of 0 (Some why)) refl opens;
 }
 
 -- ---- all lines were answered
@@ -226,8 +229,8 @@ pub gen_sent : {H : Type 0} {outside : H → Outside} {a b c : Outside} (s : Sta
     → ((s ≡ status.Done) ⊎ (s ≡ status.OutputFault) → (replies : List Reply) → IsTallyOf replies talk.tally → line ≡ gen_line replies)
     → ((table : Table) (was : List ℕ) → RunStarts meant a table was → TalkHeadline meant (volume_steps outside) IsFresh generated_talking first talk table was a b None)
     → IsOver generated_talking first a.left b.left
-    → RunOn meant (volume_steps outside) a b None → SentLine s b c line → GenPromise outside seed count a c s
-gen_sent {H} {outside} {a} {b} {c} s seed count first talk line world goes script few none made headline over on sent =
+    → RunOn meant (volume_steps outside) a b None → RunOpens meant (volume_steps outside) IsFresh OpensVolume a b None → SentLine s b c line → GenPromise outside seed count a c s
+gen_sent {H} {outside} {a} {b} {c} s seed count first talk line world goes script few none made headline over on opens sent =
     let good : (image : List ℕ) (part : Part) → a.disk ≡ Some image → FirstBad image part → ⊥ = λ image part holds fails. let is = (on.unopened image part holds fails).1 in cc in
     let before : (table : Table) (was : List ℕ) → IsOnVolume a table was → b.sent ≡ Some was = λ table was on. sent_none None (λ is. cc) (headline table was (starts_on on)) in
     let told : (s ≡ status.Done) ⊎ (s ≡ status.OutputFault) → (table : Table) (was : List ℕ) → IsOnVolume a table was → ToldOf outside seed count table was a c line =
@@ -249,4 +252,5 @@ gen_sent {H} {outside} {a} {b} {c} s seed count first talk line world goes scrip
         only = λ part is. absurd (line_good s part sent.kind is);
         kept = λ part is. absurd (line_good s part sent.kind is);
       };
+      begins = begins_on s opens sent.only.goes;
     }

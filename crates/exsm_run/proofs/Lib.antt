@@ -1,3 +1,4 @@
+mod Begun
 mod Ending
 mod Idle
 mod Making

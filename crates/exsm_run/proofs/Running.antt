@@ -15,6 +15,7 @@ use Rattle.session_core.specs.Meant.{meant}
 use Rattle.session_core.specs.Sessions.{SessionState}
 use Rattle.command_line.specs.declared.status.Status.{Status}
 use Rattle.command_line.specs.declared.status.Status.TheVariants.{Damaged, Done, Memory, ScriptLong}
+use Rattle.exsm_run.specs.Begun.{BeginsOrNot}
 use Rattle.exsm_run.specs.Clients.{ClientsPromise}
 use Rattle.exsm_run.specs.Fresh.{IsFresh}
 use Rattle.exsm_run.specs.Kept.{volume_steps}
@@ -47,8 +48,9 @@ ends_of {outside = outside} {most = most} {before = before} {after = after} worl
   opening = subst (OpeningPromise before after) (sym ran.is) (opening_of most ran.ending world ran.run.on);
 }
 
-pub run_promise : {H : Type 0} {outside : H → Outside} {most : ℕ} {before after : Outside} {status : Status} → IsWorld before → RanSource meant (volume_steps outside) IsFresh script_talking script_begins most before after status → RunPromise outside most before after status
-run_promise world ran =
+pub run_promise : {H : Type 0} {outside : H → Outside} {most : ℕ} {before after : Outside} {status : Status} → IsWorld before → RanSource meant (volume_steps outside) IsFresh script_talking script_begins most before after status → BeginsOrNot outside before after status
+    → RunPromise outside most before after status
+run_promise world ran begins =
     let ends = ends_of world ran in record {
       headline = λ table was volume. record { ending = ran.ending; is = ran.is; headline = headline_of (ran.run.headline table was (starts_on volume)) };
       sound = ends.sound;
@@ -59,11 +61,12 @@ run_promise world ran =
       draws = ends.draws;
       damaged = ends.damaged;
       opening = ends.opening;
+      begins = begins;
     }
 
 pub clients_promise : {H : Type 0} {outside : H → Outside} {most : ℕ} {before after : Outside} {status : Status} → IsWorld before → RanSource meant (volume_steps outside) IsFresh schedule_talking BeginsSchedule most before after status
-    → ClientsPromise outside most before after status
-clients_promise world ran =
+    → BeginsOrNot outside before after status → ClientsPromise outside most before after status
+clients_promise world ran begins =
     let ends = ends_of world ran in record {
       headline = λ table was volume. record { ending = ran.ending; is = ran.is; served = served_of (ran.run.headline table was (starts_on volume)) };
       sound = ends.sound;
@@ -74,4 +77,5 @@ clients_promise world ran =
       draws = ends.draws;
       damaged = ends.damaged;
       opening = ends.opening;
+      begins = begins;
     }

@@ -10,6 +10,7 @@ use Rattle.clients.specs.Headline.{Served}
 use Rattle.session_core.specs.Meant.{meant}
 use Rattle.command_line.specs.declared.status.Status.{Status}
 use Rattle.command_line.specs.declared.status.Status.TheVariants.{Damaged, Done, Memory, ScriptLong}
+use Rattle.exsm_run.specs.Begun.{BeginsOrNot}
 use Rattle.exsm_run.specs.Fresh.{IsFresh}
 use Rattle.exsm_run.specs.Kept.{volume_steps}
 use Rattle.exsm_run.specs.Openings.{OpeningPromise}
@@ -38,3 +39,5 @@ pub record ClientsPromise {H : Type 0} (outside : H → Outside) (most : ℕ) (b
   pub damaged : (page : PageNo) (want got : Seen) → status ≡ Damaged page want got → DamagedStep (volume_steps outside) before after page want got
   -- The disk holds a volume, or nothing is done.
   pub opening : OpeningPromise before after status
+  -- First its volume is opened, and that writes as an opening does.
+  pub begins : BeginsOrNot outside before after status

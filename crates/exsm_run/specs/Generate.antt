@@ -21,6 +21,7 @@ use Rattle.volume_model.specs.Parts.{StandsFor}
 use Rattle.command_line.specs.declared.status.Status.{Status}
 use Rattle.command_line.specs.declared.status.Status.TheVariants.{Damaged, Done, OutputFault, Memory}
 use Rattle.exsm_run.specs.Check.{IsLineStatus, MaySend}
+use Rattle.exsm_run.specs.Begun.{Begins}
 use Rattle.exsm_run.specs.Fresh.{IsFresh}
 use Rattle.exsm_run.specs.Kept.{volume_steps}
 use Rattle.exsm_run.specs.Openings.{OpeningPromise}
@@ -85,3 +86,5 @@ pub record GenPromise {H : Type 0} (outside : H → Outside) (seed count : ℕ) 
   pub damaged : (page : PageNo) (want got : Seen) → status ≡ Damaged page want got → DamagedStep (volume_steps outside) before after page want got
   -- The disk holds a volume, or nothing is done.
   pub opening : OpeningPromise before after status
+  -- First its volume is opened, and that writes as an opening does.
+  pub begins : Begins outside before after status

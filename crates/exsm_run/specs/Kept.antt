@@ -1,5 +1,5 @@
 -- What each step of a session on a volume keeps, whatever it replies and whether it stops.
-use Rattle.std.specs.Prelude.{◌≡◌, ℕ, List, Some, Ok, Err, Result, IfOk, OnOk, OnErr, true, false}
+use Rattle.std.specs.Prelude.{◌≡◌, ◌≢◌, ℕ, List, Some, Ok, Err, Result, IfOk, OnOk, OnErr, true, false}
 use Rattle.ex_base.specs.declared.faults.Seen.{Seen}
 use Rattle.ex_base.specs.declared.names.Area.TheVariants.{Page}
 use Rattle.ex_base.specs.declared.names.PageNo.{PageNo}
@@ -27,7 +27,7 @@ use Rattle.session_core.specs.Steps.{IsQuiet, IsRefused, OnlyFrames}
 use Rattle.session_core.specs.Updates.{WritesUnused}
 use Rattle.transactions.specs.Commands.{IsCopy, IsHonestTo, IsOfCatalog, ReadsAlone, names_version}
 use Rattle.transactions.specs.Ways.{IsSoundReply}
-use Rattle.transactions.specs.Scanning.{ReadsThrough}
+use Rattle.transactions.specs.Scanning.{LeavesScans, ReadsThrough}
 use Rattle.transactions.specs.Contents.{StepShaped}
 
 -- Where a commit, a checkpoint, an abort or a close was asked for.
@@ -94,6 +94,10 @@ pub record StepKeeps (old new : SessionState) (a b : Outside) (r : Request) (res
   pub is_down : old.down ≡ true → (result ≡ Err stop.Down) × MakesCalls 0 a b × (new ≡ old)
   pub goes_down : OnErr result (new.down ≡ true)
   pub stays_up : OnOk result (new.down ≡ false)
+  -- Each open scan stays as it is, with its group, but that its own line puts one behind them, moves one on, or takes one out.
+  pub scans : LeavesScans old.scans new.scans r
+  -- A fault of the disk is told: with any other result none came.
+  pub told : result ≢ Err stop.Disk → b.disk_faults ≡ a.disk_faults
 
 -- the sessions on volumes, over hosts of a type
 abbrev pub volume_steps : {H : Type 0} → (H → Outside) → Conduct SessionState H

@@ -6,6 +6,7 @@ pub mod Kept
 pub mod Script
 pub mod Openings
 pub mod Check
+pub mod Begun
 pub mod Clients
 pub mod Generate
 pub mod Dump

@@ -31,6 +31,8 @@ pub record Answers {H : Type 0} (outside : H → Outside) (words : List Text) (b
   pub damaged : (page : PageNo) (want got : Seen) → status ≡ Damaged page want got → want ≢ got
   pub refused : IsRefusal status → ReadsOnly (outside before) (outside after)
   pub does : (wish : Wish) → Asks words wish → Promise outside wish (outside before) (outside after) status ⊎ ((status ≡ Memory) × (after ≡ before))
+  -- A fault of the disk is told: with any other status none came.
+  pub told : status ≢ DiskFault → (outside after).disk_faults ≡ (outside before).disk_faults
 
 -- The words were run on a host that was opened so, and the ending has the status that `run` answered and the system's reason for it.
 pub record RanWords {H : Type 0} (outside : H → Outside) (Opened : H → Type 0) (Told : H → RunEnding → Type 0) (words : List Text) (ending : RunEnding) : Type 0 where

@@ -20,6 +20,7 @@ use Rattle.exsm_run.specs.Load.{LoadPromise}
 use Rattle.exsm_run.specs.Pack.{PackPromise}
 use Rattle.exsm_run.specs.EmptyVolume.{HasMagic}
 use Rattle.exsm_run.specs.Format.{FormatAnswers, FormatSends, IsFormatted, IsFormatMoment, MayFormat, WritesAlone}
+use Rattle.exsm_run.specs.Begun.{BeginsOrNot}
 use Rattle.exsm_run.specs.Fresh.{IsFresh}
 use Rattle.exsm_run.specs.Kept.{volume_steps}
 use Rattle.exsm_run.specs.Openings.{OpeningPromise}
@@ -57,6 +58,8 @@ pub record RunPromise {H : Type 0} (outside : H → Outside) (most : ℕ) (befor
   pub damaged : (page : PageNo) (want got : Seen) → status ≡ Damaged page want got → DamagedStep (volume_steps outside) before after page want got
   -- The disk holds a volume, or nothing is done.
   pub opening : OpeningPromise before after status
+  -- First its volume is opened, and that writes as an opening does.
+  pub begins : BeginsOrNot outside before after status
 
 -- What each command promises, over hosts of a type, given what stands outside of each.
 abbrev pub Promise : {H : Type 0} → (H → Outside) → Wish → Outside → Outside → Status → Type 0

@@ -1,5 +1,5 @@
 //! The numbers of a volume.
-ghost use Rattle.std.specs.Prelude.{◌≡◌, ◌≢◌, ◌⊎◌, ℕ, List, Some, IsTrue, OnOk, IfOk, IfErr, MatchResult, string_bytes};
+ghost use Rattle.std.specs.Prelude.{◌≡◌, ◌≢◌, ◌⊎◌, ℕ, List, Some, Err, IsTrue, OnOk, IfOk, IfErr, MatchResult, string_bytes};
 ghost use Rattle.disk_model.specs.Outside.{DiskOnly, Goes, Leaves, Rose};
 ghost use Rattle.ex_base.specs.declared.names.PageNo.{PageNo};
 ghost use Rattle.ex_base.specs.declared.faults.Seen.{Seen};
@@ -38,6 +38,8 @@ fn counted<H: Host>(alloc: Global, host: &mut H) -> Result<Summary, Status>
     ensures only { DiskOnly (H.outside host.old) (H.outside host.new) }
     ensures stops { IfErr result
         (λ status. StopsCount status (H.outside host.old) (H.outside host.new)) }
+    ensures told { result ≢ Err Status.DiskFault
+        → (H.outside host.new).disk_faults ≡ (H.outside host.old).disk_faults }
     ensures counts { (table : Table) (was : List ℕ) → HoldsVolume (H.outside host.old) table was
         → MatchResult result (IsCount (H.outside host.new) table)
         (λ status. (status ≡ Status.DiskFault) ⊎ (status ≡ Status.Memory)) }
@@ -89,6 +91,8 @@ pub fn checked<H: Host>(alloc: Global, host: &mut H) -> Status
         → Rose (H.outside host.old).write_faults (H.outside host.new).write_faults }
     ensures disk_fault { result ≡ Status.DiskFault
         → Rose (H.outside host.old).disk_faults (H.outside host.new).disk_faults }
+    ensures told { result ≢ Status.DiskFault
+        → (H.outside host.new).disk_faults ≡ (H.outside host.old).disk_faults }
     ensures damaged { (page : PageNo) (want got : Seen) → result ≡ Status.Damaged page want got
         → want ≢ got }
     ensures promise { CheckPromise (H.outside host.old) (H.outside host.new) result }

@@ -1,5 +1,6 @@
 //! A volume is made.
 ghost use Rattle.std.specs.Prelude.{◌≡◌, ◌≢◌, ◌≤◌, ◌<◌, ◌⊎◌, ◌++◌, List, ℕ, IsTrue, Some, length, take, OnOk, OnErr, IfOk, string_bytes};
+ghost use Rattle.ex_base.specs.Bytes.{part};
 ghost use Rattle.ex_base.specs.Sizes.{volume_bytes};
 ghost use Rattle.ex_base.specs.Superblock.{format_now, magic, super_page};
 ghost use Rattle.object_files.specs.Catalog.{CatalogOf, fresh_catalog};
@@ -43,9 +44,11 @@ pub fn format<H: Host>(alloc: Global, host: &mut H, geometry: &Geometry) -> Stat
         ⊎ ((H.outside host.old).size < volume_bytes geometry.now)
         → ReadsOnly (H.outside host.old) (H.outside host.new) }
 
-    // A fault has its cause.
+    // A fault has its cause, and one of the disk that came is told.
     ensures disk { result ≡ Status.DiskFault
         → Rose (H.outside host.old).disk_faults (H.outside host.new).disk_faults }
+    ensures told { result ≢ Status.DiskFault
+        → (H.outside host.new).disk_faults ≡ (H.outside host.old).disk_faults }
     ensures output { result ≡ Status.OutputFault
         → Rose (H.outside host.old).write_faults (H.outside host.new).write_faults }
 
@@ -79,7 +82,7 @@ pub fn format<H: Host>(alloc: Global, host: &mut H, geometry: &Geometry) -> Stat
         return Status::TooSmall { have, need };
     }
     let mut first = [0u8; MAGIC_LEN];
-    if host.read(0, &mut first).is_err() {
+    if read_first(host, &mut first).is_err() {
         return Status::DiskFault;
     }
     if has_magic(&first) {
@@ -94,13 +97,63 @@ pub fn format<H: Host>(alloc: Global, host: &mut H, geometry: &Geometry) -> Stat
     let Ok(line) = line_of(alloc, need) else {
         return Status::Memory;
     };
-    if lay_out(host, geometry, &superblock, &catalog).is_err() {
+    if laid_out(host, geometry, &superblock, &catalog).is_err() {
         return Status::DiskFault;
     }
     if send_all(host, line.as_bytes()).is_err() {
         return Status::OutputFault;
     }
     Status::Done
+}
+
+// Reads the first bytes. A fault of the disk that came meanwhile is told.
+fn read_first<D: Disk>(disk: &mut D, out: &mut [u8]) -> Result<(), Failed>
+    requires room { length out.old ≤ (D.outside disk.old).size }
+    ensures only { ReadsOnly (D.outside disk.old) (D.outside disk.new) }
+    ensures cause { OnErr result (Rose (D.outside disk.old).disk_faults
+        (D.outside disk.new).disk_faults) }
+    ensures told { OnOk result ((D.outside disk.new).disk_faults
+        ≡ (D.outside disk.old).disk_faults) }
+    ensures bytes { OnOk result ((d : List ℕ) → (D.outside disk.old).disk ≡ Some d
+        → out.new ≡ part d 0 (length out.old)) }
+{
+    let faults = disk.faults();
+    disk.read(0, out)?;
+    if disk.faults() != faults {
+        return Err(Failed);
+    }
+    Ok(())
+}
+
+// Writes the empty volume, the magic last. A fault of the disk that came meanwhile is told.
+fn laid_out<D: Disk>(
+    disk: &mut D,
+    geometry: &Geometry,
+    superblock: &[u8],
+    catalog: &[u8],
+) -> Result<(), Failed>
+    requires room { volume_bytes geometry.now ≤ (D.outside disk.old).size }
+    requires superblock { superblock.now ≡ super_page format_now geometry.now }
+    requires catalog { CatalogOf catalog.now fresh_catalog }
+    requires one_page { length catalog.now ≡ geometry.now.page_size }
+    ensures changes { ChangesWithin (IsMade geometry.now) (D.outside disk.old)
+        (D.outside disk.new) }
+    ensures cause { OnErr result (Rose (D.outside disk.old).disk_faults
+        (D.outside disk.new).disk_faults) }
+    ensures told { OnOk result ((D.outside disk.new).disk_faults
+        ≡ (D.outside disk.old).disk_faults) }
+    ensures formatted { OnOk result (IsTrue (D.outside disk.old).honest → (d : List ℕ)
+        → (D.outside disk.old).disk ≡ Some d
+        → IsFormatted geometry.now (D.outside disk.new)) }
+    ensures any_moment { (d : List ℕ) → RestsOn (D.outside disk.old) d → (HasMagic d → ⊥)
+        → Leaves (D.outside disk.old) (D.outside disk.new) (IsUnmadeOrEmpty geometry.now) }
+{
+    let faults = disk.faults();
+    lay_out(disk, geometry, superblock, catalog)?;
+    if disk.faults() != faults {
+        return Err(Failed);
+    }
+    Ok(())
 }
 
 // Writes the empty volume, the magic last.

@@ -66,6 +66,8 @@ pub fn loaded<H: Host>(alloc: Global, host: &mut H) -> Status
         → Rose (H.outside host.old).write_faults (H.outside host.new).write_faults }
     ensures disk_fault { result ≡ Status.DiskFault
         → Rose (H.outside host.old).disk_faults (H.outside host.new).disk_faults }
+    ensures told { result ≢ Status.DiskFault
+        → (H.outside host.new).disk_faults ≡ (H.outside host.old).disk_faults }
     ensures damaged { (page : PageNo) (want got : Seen) → result ≡ Status.Damaged page want got
         → want ≢ got }
     ensures promise { LoadPromise (H.outside host.old) (H.outside host.new) result }
@@ -74,14 +76,23 @@ pub fn loaded<H: Host>(alloc: Global, host: &mut H) -> Status
         Ok(volume) => volume,
         Err(status) => return status,
     };
-    let empty = match is_empty(alloc, host, &volume) {
+    let faults = host.faults();
+    let read = is_empty(alloc, host, &volume);
+    if host.faults() != faults {
+        return Status::DiskFault;
+    }
+    let empty = match read {
         Ok(empty) => empty,
         Err(fault) => return status_unopened(fault),
     };
     if !empty {
         return Status::NotEmpty;
     }
-    let totals = match load_stream(alloc, host, volume) {
+    let loading = load_stream(alloc, host, volume);
+    if host.faults() != faults {
+        return Status::DiskFault;
+    }
+    let totals = match loading {
         Ok(totals) => totals,
         Err(fault) => return status_unloaded(fault),
     };

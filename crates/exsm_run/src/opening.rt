@@ -1,5 +1,5 @@
 //! The opening of a volume for a command that steps no lines.
-ghost use Rattle.std.specs.Prelude.{◌≡◌, ◌≤◌, ◌⊎◌, ℕ, List, Some, IsTrue, OnOk, IfOk, IfErr, MatchResult};
+ghost use Rattle.std.specs.Prelude.{◌≡◌, ◌≢◌, ◌≤◌, ◌⊎◌, ℕ, List, Some, Err, IsTrue, OnOk, IfOk, IfErr, MatchResult};
 ghost use Rattle.ex_base.specs.Sizes.{volume_bytes};
 ghost use Rattle.disk_model.specs.Outside.{DiskOnly, Leaves};
 ghost use Rattle.table_model.specs.declared.table.Table.{Table};
@@ -40,6 +40,8 @@ pub(crate) fn opened<H: Host>(alloc: Global, host: &mut H) -> Result<VolumeState
         ≤ (H.outside host.new).size) }
     ensures stops { IfErr result
         (λ status. StopsCount status (H.outside host.old) (H.outside host.new)) }
+    ensures told { result ≢ Err Status.DiskFault
+        → (H.outside host.new).disk_faults ≡ (H.outside host.old).disk_faults }
 
     // A volume is at rest then, with its table, but for a fault of the disk and want of memory.
     ensures rests { (table : Table) (was : List ℕ) → HoldsVolume (H.outside host.old) table was

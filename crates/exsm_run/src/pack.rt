@@ -54,6 +54,8 @@ pub fn packed<H: Host>(alloc: Global, host: &mut H) -> Status
         → Rose (H.outside host.old).write_faults (H.outside host.new).write_faults }
     ensures disk_fault { result ≡ Status.DiskFault
         → Rose (H.outside host.old).disk_faults (H.outside host.new).disk_faults }
+    ensures told { result ≢ Status.DiskFault
+        → (H.outside host.new).disk_faults ≡ (H.outside host.old).disk_faults }
     ensures damaged { (page : PageNo) (want got : Seen) → result ≡ Status.Damaged page want got
         → want ≢ got }
     ensures promise { PackPromise (H.outside host.old) (H.outside host.new) result }
@@ -62,7 +64,12 @@ pub fn packed<H: Host>(alloc: Global, host: &mut H) -> Status
         Ok(volume) => volume,
         Err(status) => return status,
     };
-    let packed = match pack(alloc, host, &mut volume) {
+    let faults = host.faults();
+    let packing = pack(alloc, host, &mut volume);
+    if host.faults() != faults {
+        return Status::DiskFault;
+    }
+    let packed = match packing {
         Ok(packed) => packed,
         Err(fault) => return status_unpacked(fault),
     };

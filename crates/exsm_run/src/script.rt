@@ -1,11 +1,14 @@
 //! A script is run on a volume.
-ghost use Rattle.std.specs.Prelude.{◌≡◌, ◌≢◌, Some};
+ghost use Rattle.std.specs.Prelude.{◌≡◌, ◌≢◌, ◌⊎◌, Option, Some};
 ghost use Rattle.disk_model.specs.Outside.{Rose, Goes};
 ghost use Rattle.engines.specs.Keeping.{conduct};
 ghost use Rattle.ex_base.specs.declared.names.PageNo.{PageNo};
 ghost use Rattle.ex_base.specs.declared.faults.Seen.{Seen};
 ghost use Rattle.exsm_run.specs.Status.{IsRefusal};
 ghost use Rattle.exsm_run.specs.Script.{status_of, RanSource};
+ghost use Rattle.runs.specs.Source.{NotBegun};
+ghost use Rattle.talks.specs.Headline.{RunOpens};
+ghost use Rattle.talks.specs.declared.stopped.Stopped.{Stopped};
 
 use crate::status::Status;
 use disk_model::Host;
@@ -44,6 +47,13 @@ pub fn run_script<S: Opener + Drop, T: SourceTalk + Drop, H: Host>(
     ensures ran { RanSource S.meaning (conduct H.outside S.keeps) S.fresh T.talking T.begins most
         (H.outside host.old) (H.outside host.new) result }
 
+    // First the volume was opened, but where no memory was there for lines.
+    ensures opened { (ending : Option Stopped) × (result ≡ status_of most ending)
+        × (RunOpens S.meaning (conduct H.outside S.keeps) S.fresh S.opens
+        (H.outside host.old) (H.outside host.new) ending
+        ⊎ ((ending ≡ Some Stopped.Memory)
+        × NotBegun (H.outside host.old) (H.outside host.new))) }
+
     // A fault is answered only where the count of such faults rose, and damage only of two things that differ.
     ensures script_fault { result ≡ Status.ScriptFault
         → Rose (H.outside host.old).read_faults (H.outside host.new).read_faults }
@@ -51,6 +61,8 @@ pub fn run_script<S: Opener + Drop, T: SourceTalk + Drop, H: Host>(
         → Rose (H.outside host.old).write_faults (H.outside host.new).write_faults }
     ensures disk_fault { result ≡ Status.DiskFault
         → Rose (H.outside host.old).disk_faults (H.outside host.new).disk_faults }
+    ensures told { result ≢ Status.DiskFault
+        → (H.outside host.new).disk_faults ≡ (H.outside host.old).disk_faults }
     ensures damaged { (page : PageNo) (want got : Seen) → result ≡ Status.Damaged page want got
         → want ≢ got }
 {

@@ -59,6 +59,8 @@ impl VolumeSession {
         ensures only { ReadsOnly (H.outside host.old) (H.outside host.new) }
         ensures disk { result ≡ Err Stop.Disk
             → Rose (H.outside host.old).disk_faults (H.outside host.new).disk_faults }
+        ensures told { result ≢ Err Stop.Disk
+            → (H.outside host.new).disk_faults ≡ (H.outside host.old).disk_faults }
         ensures damaged { (page : PageNo) (want got : Seen)
             → result ≡ Err (Stop.Damaged page want got) → want ≢ got }
 
@@ -114,9 +116,12 @@ impl Engine for VolumeSession {
 }
 
 impl Opener for VolumeSession {
+    ghost use Rattle.exsm_run.specs.Begun.{OpensVolume};
     ghost use Rattle.exsm_run.specs.Fresh.{IsFresh};
 
     ghost fresh = { IsFresh };
+
+    ghost opens = { OpensVolume };
 
     fn open<H: Host>(alloc: Global, host: &mut H) -> Result<VolumeSession, OpenFault> {
         match open_volume(alloc, host) {

@@ -32,13 +32,15 @@ pub fn run<H: Host>(alloc: Global, words: &[String], host: &mut H) -> Status
         → (result ≡ Status.Usage) ⊎ (result ≡ Status.Memory) }
     ensures untouched { IsOutside (texts words.now) → host.new ≡ host.old }
 
-    // A fault is answered only where the count of such faults rose.
+    // A fault is answered only where the count of such faults rose, and one of the disk is answered wherever it rose.
     ensures script_fault { result ≡ Status.ScriptFault
         → Rose (H.outside host.old).read_faults (H.outside host.new).read_faults }
     ensures output_fault { result ≡ Status.OutputFault
         → Rose (H.outside host.old).write_faults (H.outside host.new).write_faults }
     ensures disk_fault { result ≡ Status.DiskFault
         → Rose (H.outside host.old).disk_faults (H.outside host.new).disk_faults }
+    ensures told { result ≢ Status.DiskFault
+        → (H.outside host.new).disk_faults ≡ (H.outside host.old).disk_faults }
 
     // What a read gave isn't what the page that names it says.
     ensures damaged { (page : PageNo) (want got : Seen) → result ≡ Status.Damaged page want got
@@ -75,6 +77,8 @@ fn fulfil<H: Host>(alloc: Global, host: &mut H, wish: Wish) -> Status
         → Rose (H.outside host.old).write_faults (H.outside host.new).write_faults }
     ensures disk_fault { result ≡ Status.DiskFault
         → Rose (H.outside host.old).disk_faults (H.outside host.new).disk_faults }
+    ensures told { result ≢ Status.DiskFault
+        → (H.outside host.new).disk_faults ≡ (H.outside host.old).disk_faults }
     ensures damaged { (page : PageNo) (want got : Seen) → result ≡ Status.Damaged page want got
         → want ≢ got }
     ensures refused { IsRefusal result → ReadsOnly (H.outside host.old) (H.outside host.new) }

@@ -1,18 +1,21 @@
-use Rattle.std.proofs.Common.{◌≡◌, ◌⊎◌, ◌∙◌, ◌≤◌, refl, sym, ap, subst, arith, Err, Some, IsTrue, List, ℕ, true≢false}
+use Rattle.std.proofs.Common.{◌≡◌, ◌⊎◌, ◌∙◌, ◌≤◌, refl, sym, ap, subst, arith, Err, Ok, Some, IsTrue, List, ℕ, true≢false}
 use Rattle.std.proofs.lemmas.Result.{err_from_is_err_and}
 use Rattle.disk_model.specs.Runs.{honest_on, leaves_quiet}
 use Rattle.ex_base.specs.Sizes.{volume_bytes}
 use Rattle.session_views.specs.Opening.{StandsOpening}
+use Rattle.session_views.specs.declared.stop.Stop.{Stop}
+use Rattle.session_views.specs.declared.stop.Stop.TheVariants as stop
 use Rattle.talks.specs.Opening.{Opened}
 use Rattle.session_core.specs.Meant.{meant}
 use Rattle.session_core.specs.Sessions.{SessionState}
 use Rattle.command_line.specs.declared.status.Status.{Status}
 use Rattle.command_line.specs.declared.status.Status.TheVariants as status
-use Rattle.exsm_run.specs.Check.{StopsCount}
+use Rattle.exsm_run.specs.Check.{StopsAs, StopsCount}
 use Rattle.exsm_run.specs.Fresh.{IsFresh}
 use Rattle.exsm_run.specs.Openings.{OpeningPromise, WritesAsOpening}
 use Rattle.exsm_run.proofs.Counting.{count_of, stops_session, stopped_so, no_bad_session}
 use Rattle.exsm_run.proofs.Lines.{opened_well}
+use Rattle.exsm_run.proofs.Opened.{err_same}
 use Rattle.exsm_run.proofs.Written.{keeps_nothing, match_err_handed, writes_on_opening}
 use Rattle.ex_base.proofs.Results.{if_err_handed}
 use Rattle.exsm_run.proofs.check.counted.Goals as goal
@@ -83,3 +86,22 @@ returns-clause-opening g c =
 
 pub status_stopped-requires : goal.status_stopped-requires
 status_stopped-requires g c is = true≢false (sym (c.in-Err.ensures.was_down (ap (λ s. Err s) is)) ∙ ap (λ (s : SessionState). s.down) c.on-session.ensures)
+
+-- ---- a fault of the disk is told
+
+-- an answer is no fault
+not_fault : {A B : Type 0} (answer : A) (fault : B) → Ok answer ≡ Err fault → ⊥
+not_fault answer fault is = let same : Ok answer ≡ Err fault = is in cc
+
+pub returns-in_err-volume-clause-told : goal.returns-in_err-volume-clause-told
+returns-in_err-volume-clause-told g c =
+    let p = err_from_is_err_and c.from_residual.result c.from_residual.ensures.1 in
+    rw (p.1, p.2) (λ other. c.in_err-volume.ensures.told (λ is. other (ap (λ s. Err s) (err_same (Err c.in_err-volume.field-0.0) (Err status.DiskFault) refl refl is))))
+
+pub returns-in-Ok-clause-told : goal.returns-in-Ok-clause-told
+returns-in-Ok-clause-told g c other = c.in-Ok.ensures.told (not_fault _ _) ∙ c.in_ok-volume.ensures.told (not_fault _ _)
+
+pub returns-clause-told : goal.returns-clause-told
+returns-clause-told g c other =
+    c.in-Err.ensures.told (λ is. other (ap (λ s. Err s) (subst (λ (s : Stop). StopsAs s c.status_stopped.result) (err_same (Err c.in-Err.stop) (Err stop.Disk) refl refl is) c.status_stopped.ensures)))
+    ∙ c.in_ok-volume.ensures.told (not_fault _ _)

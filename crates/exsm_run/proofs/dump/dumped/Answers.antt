@@ -1,8 +1,11 @@
 use Rattle.disk_model.specs.Runs.{goes_trans}
-use Rattle.std.proofs.Common.{sym, subst}
+use Rattle.std.proofs.Common.{◌∙◌, Err, refl, ap, sym, subst}
 use Rattle.command_line.specs.declared.status.Status.{Status}
-use Rattle.exsm_run.specs.Dump.{DumpPromise}
+use Rattle.command_line.specs.declared.status.Status.TheVariants as status
+use Rattle.history_dump.specs.declared.fault.DumpFault.TheVariants as fault
+use Rattle.exsm_run.specs.Dump.{DumpPromise, failed_status}
 use Rattle.exsm_run.proofs.Dumping.{can_read, dump_done, dump_failed, dump_unopened}
+use Rattle.exsm_run.proofs.Opened.{err_same}
 use Rattle.exsm_run.proofs.dump.dumped.Goals as goal
 
 pub send_dump-requires : goal.send_dump-requires
@@ -41,3 +44,13 @@ returns-in-Ok-send_dump-clause-goes g c = goes_trans c.opened.ensures.only.goes 
 
 pub returns-clause-goes : goal.returns-clause-goes
 returns-clause-goes g c = goes_trans c.opened.ensures.only.goes c.send_dump.ensures.only.goes
+
+pub returns-in-Err-clause-told : goal.returns-in-Err-clause-told
+returns-in-Err-clause-told g c other = c.in-Err.ensures.told (λ is. other (err_same (Err c.in-Err.status) (Err status.DiskFault) refl refl is))
+
+pub returns-in-Ok-send_dump-clause-told : goal.returns-in-Ok-send_dump-clause-told
+returns-in-Ok-send_dump-clause-told g c other = c.in-Ok-send_dump.ensures.told (λ is. cc) ∙ c.in-Ok.ensures.told (λ is. cc)
+
+pub returns-clause-told : goal.returns-clause-told
+returns-clause-told g c other =
+    c.in-Err-send_dump.ensures.told (λ is. other (c.status_failed.ensures ∙ ap failed_status (err_same (Err c.in-Err-send_dump.fault) (Err fault.Disk) refl refl is))) ∙ c.in-Ok.ensures.told (λ is. cc)

@@ -1,4 +1,4 @@
-use Rattle.std.proofs.Common.{◌≡◌, ◌⊎◌, refl, sym, ap, subst, Err}
+use Rattle.std.proofs.Common.{◌≡◌, ◌⊎◌, ◌∙◌, refl, sym, ap, subst, Err}
 use Rattle.session_core.specs.Meant.{meant}
 use Rattle.command_line.specs.declared.status.Status.{Status}
 use Rattle.command_line.specs.declared.status.Status.TheVariants as status
@@ -45,3 +45,10 @@ returns-in-Err-clause-opening g c =
     subst (λ (s : Status). OpeningPromise (g.H.World.outside c.args.host.now) (g.H.World.outside c.open_volume.new.disk) s) (sym c.status_unopened.ensures)
     (unopened_well c.in-Err.fault (g.H.World.is_world c.args.host.now) (λ part is. c.in-Err.ensures.bad part (ap (λ f. Err f) is)) c.open_volume.ensures.left
     (λ part is. c.in-Err.ensures.unwritten part (ap (λ f. Err f) is)) (λ part is. c.in-Err.ensures.kept part (ap (λ f. Err f) is)))
+
+pub returns-in-Ok-clause-told : goal.returns-in-Ok-clause-told
+returns-in-Ok-clause-told g c other = c.in-Ok.ensures.told (λ is. cc)
+
+pub returns-in-Err-clause-told : goal.returns-in-Err-clause-told
+returns-in-Err-clause-told g c other =
+    c.in-Err.ensures.told (λ is. other (ap (λ s. Err s) (c.status_unopened.ensures ∙ ap unopened_status (err_same (Err c.in-Err.fault) (Err open_fault.Disk) refl refl is))))

@@ -20,6 +20,7 @@ returns-in-Ok-clause-ran g c =
       damaged = promise.damaged;
       refused = promise.refused;
       does = promise.does;
+      told = promise.told;
     } in
     inr (record {
       before = c.in-Ok.host;

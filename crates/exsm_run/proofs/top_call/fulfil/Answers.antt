@@ -2,6 +2,7 @@ use Rattle.std.proofs.Common.{sym, subst}
 use Rattle.command_words.specs.declared.wish.Wish.{Wish}
 use Rattle.exsm_run.specs.Format.{FormatAnswers, IsFormatStatus}
 use Rattle.exsm_run.specs.Promises.{FormatPromise, Promise}
+use Rattle.exsm_run.proofs.Begun.{begins_source}
 use Rattle.exsm_run.proofs.Ending.{no_usage, made_or_memory}
 use Rattle.exsm_run.proofs.Running.{clients_promise, run_promise}
 use Rattle.exsm_run.proofs.top_call.fulfil.Goals as goal
@@ -40,7 +41,7 @@ returns-in-Run-clause-refused g c refused = absurd (c.run_script.ensures.never r
 pub returns-in-Run-clause-promise : goal.returns-in-Run-clause-promise
 returns-in-Run-clause-promise g c =
     subst (λ (w : Wish). Promise g.H.World.outside w (g.H.World.outside c.args.host.now) (g.H.World.outside c.run_script.new.host) c.run_script.result) (sym c.in-Run.is)
-    (run_promise (g.H.World.is_world c.args.host.now) c.run_script.ensures.ran)
+    (run_promise (g.H.World.is_world c.args.host.now) c.run_script.ensures.ran (begins_source c.run_script.ensures.opened))
 
 pub returns-in-Clients-clause-never : goal.returns-in-Clients-clause-never
 returns-in-Clients-clause-never g c is = no_usage c.run_script-in-Clients.result c.run_script-in-Clients.ensures.never is
@@ -51,4 +52,4 @@ returns-in-Clients-clause-refused g c refused = absurd (c.run_script-in-Clients.
 pub returns-in-Clients-clause-promise : goal.returns-in-Clients-clause-promise
 returns-in-Clients-clause-promise g c =
     subst (λ (w : Wish). Promise g.H.World.outside w (g.H.World.outside c.args.host.now) (g.H.World.outside c.run_script-in-Clients.new.host) c.run_script-in-Clients.result) (sym c.in-Clients.is)
-    (clients_promise (g.H.World.is_world c.args.host.now) c.run_script-in-Clients.ensures.ran)
+    (clients_promise (g.H.World.is_world c.args.host.now) c.run_script-in-Clients.ensures.ran (begins_source c.run_script-in-Clients.ensures.opened))

@@ -49,6 +49,8 @@ returns-clause-kept g c =
       is_down = λ is. let down = promise.is_down is in (down.0, calls_nothing g.H.World.outside down.1, down.2);
       goes_down = promise.goes_down;
       stays_up = promise.stays_up;
+      scans = promise.scans;
+      told = promise.told;
     })
 
 pub returns-clause-stepped : goal.returns-clause-stepped
