@@ -2,5 +2,11 @@
 #![tactic(auto)]
 
 mod rooms;
+mod truth;
 
 pub use rooms::Rooms;
+pub use truth::{
+    a_page_that_is_looked_at_is_true, a_place_is_looked_for_from_a_true_room,
+    an_edit_leaves_the_other_pages_true, nothing_is_true, pages_that_go_back_are_true,
+    settled_pages_stay_true,
+};

@@ -81,7 +81,7 @@ fn change<V: Volume>(
     ensures takes { OnOk result (TakesNeed V.Ground volume.old volume.new
         (Changes oid.now (change_of edit.now))) }
     ensures touches { OnOk result (TouchesAtMost V.Ground volume.old volume.new 1) }
-    ensures rooms { ChangesOne rooms.old rooms.new }
+    ensures rooms { ChangesOne rooms.old.rooms rooms.new.rooms }
     ensures fault { IfErr result (IsFaultIn V.Ground volume.old (the_version oid.now)) }
     ensures leads { V.leads volume.old volume.new }
     ensures cause { HasCause (V.faults volume.old) (V.faults volume.new) result }
@@ -125,7 +125,7 @@ pub fn perform<V: Volume>(
         → OnOk result (TakesNeed V.Ground volume.old volume.new u) }
     ensures touches { OnOk result (TouchesAtMost V.Ground volume.old volume.new
         (charge_of update.now)) }
-    ensures rooms { ChangesOne rooms.old rooms.new }
+    ensures rooms { ChangesOne rooms.old.rooms rooms.new.rooms }
     ensures fault { IfErr result (IsFaultIn V.Ground volume.old (asked_of update.now)) }
     ensures leads { V.leads volume.old volume.new }
     ensures cause { HasCause (V.faults volume.old) (V.faults volume.new) result }

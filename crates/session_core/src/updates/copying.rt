@@ -49,7 +49,7 @@ pub fn copy<V: Volume>(
     ensures takes { OnOk result (TakesNeed V.Ground volume.old volume.new
         (copies copying oid.now unique)) }
     ensures touches { OnOk result (TouchesAtMost V.Ground volume.old volume.new 16) }
-    ensures rooms { ChangesOne rooms.old rooms.new }
+    ensures rooms { ChangesOne rooms.old.rooms rooms.new.rooms }
     ensures fault { IfErr result (IsFaultIn V.Ground volume.old (the_version oid.now)) }
     ensures leads { V.leads volume.old volume.new }
     ensures cause { HasCause (V.faults volume.old) (V.faults volume.new) result }

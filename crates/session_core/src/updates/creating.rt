@@ -97,7 +97,7 @@ pub fn create<V: Volume>(
     ensures takes { (name : List ℕ) → OnOk result (TakesNeed V.Ground volume.old volume.new
         (Makes name file_no unique)) }
     ensures touches { OnOk result (TouchesAtMost V.Ground volume.old volume.new 16) }
-    ensures rooms { ChangesOne rooms.old rooms.new }
+    ensures rooms { ChangesOne rooms.old.rooms rooms.new.rooms }
     ensures fault { IfErr result (IsFaultIn V.Ground volume.old no_version) }
     ensures leads { V.leads volume.old volume.new }
     ensures cause { HasCause (V.faults volume.old) (V.faults volume.new) result }

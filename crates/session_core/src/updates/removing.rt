@@ -25,7 +25,7 @@ pub fn remove<V: Volume>(
     ensures updates { Updates V.Ground volume.old volume.new (Removes oid.now) result }
     ensures takes { OnOk result (TakesNeed V.Ground volume.old volume.new (Removes oid.now)) }
     ensures touches { OnOk result (TouchesAtMost V.Ground volume.old volume.new 16) }
-    ensures rooms { ChangesOne rooms.old rooms.new }
+    ensures rooms { ChangesOne rooms.old.rooms rooms.new.rooms }
     ensures fault { IfErr result (IsFaultIn V.Ground volume.old (the_version oid.now)) }
     ensures leads { V.leads volume.old volume.new }
     ensures cause { HasCause (V.faults volume.old) (V.faults volume.new) result }
@@ -55,7 +55,7 @@ pub fn drop_frozen<V: Volume>(
     ensures updates { Updates V.Ground volume.old volume.new (Drops oid.now) result }
     ensures takes { OnOk result (TakesNeed V.Ground volume.old volume.new (Drops oid.now)) }
     ensures touches { OnOk result (TouchesAtMost V.Ground volume.old volume.new 16) }
-    ensures rooms { ChangesOne rooms.old rooms.new }
+    ensures rooms { ChangesOne rooms.old.rooms rooms.new.rooms }
     ensures fault { IfErr result (IsFaultIn V.Ground volume.old (the_version oid.now)) }
     ensures leads { V.leads volume.old volume.new }
     ensures cause { HasCause (V.faults volume.old) (V.faults volume.new) result }

@@ -13,6 +13,7 @@ use Rattle.session_core.specs.Performed.{Updates}
 use Rattle.session_core.proofs.Copied.{copy_taken, derive_failed, derived_made, freeze_failed, frozen_made, uncounted, unfiled}
 use Rattle.session_core.proofs.Followed.{still_taken, still_updated, copied_few, still_done, still_touches, touches_on}
 use Rattle.file_rooms.specs.Rooms.{ChangesOne}
+use Rattle.file_rooms.proofs.Kept.{copy_kept_one}
 use Rattle.volume_edits.specs.Damage.{ports_own}
 use Rattle.versions.proofs.Results.{ok_of}
 use Rattle.volume_edits.proofs.UnitsTaken.{pages_taken}
@@ -110,7 +111,7 @@ returns-in-Ok-clause-takes g c =
     ])
 
 pub returns-in-Ok-clause-rooms : goal.returns-in-Ok-clause-rooms
-returns-in-Ok-clause-rooms g c = subst (ChangesOne c.args.rooms.now) (sym c.look_at.ensures.rooms) c.keep_copy.ensures
+returns-in-Ok-clause-rooms g c = subst (ChangesOne c.args.rooms.now.rooms) (sym c.look_at.ensures.rooms) (copy_kept_one c.args.rooms.now c.keep_copy.new.self _ _ _ c.keep_copy.ensures)
 
 pub returns-in-Ok-clause-fault : goal.returns-in-Ok-clause-fault
 returns-in-Ok-clause-fault g c = IfErr-weaker c.look_at.result _ (IsFaultIn g.V.Ground c.args.volume.now (the_version c.args.oid.now)) (λ fault never told. as_it_is (ports_own never)) c.look_at.ensures.no_damage

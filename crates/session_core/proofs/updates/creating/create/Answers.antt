@@ -13,6 +13,7 @@ use Rattle.volume_edits.specs.Damage.{as_it_is, of_placing, ports_own}
 use Rattle.volume_edits.proofs.Damage.{after_count, told_catalog}
 use Rattle.session_core.specs.Damage.{IsFaultIn, no_version}
 use Rattle.file_rooms.specs.Rooms.{ChangesOne}
+use Rattle.file_rooms.proofs.Kept.{kept_one}
 use Rattle.ex_base.specs.declared.names.Area.{Area}
 use Rattle.ex_base.specs.declared.names.Area.TheVariants.{Page}
 use Rattle.ex_base.proofs.Handed.{cause_after, cause_of}
@@ -56,7 +57,7 @@ returns-in-Err-clause-updates g c = λ name.
     }
 
 pub returns-in-Ok-clause-rooms : goal.returns-in-Ok-clause-rooms
-returns-in-Ok-clause-rooms g c = subst (ChangesOne c.args.rooms.now) (sym c.look_at.ensures.rooms) c.keep.ensures
+returns-in-Ok-clause-rooms g c = subst (ChangesOne c.args.rooms.now.rooms) (sym c.look_at.ensures.rooms) (kept_one c.args.rooms.now c.keep.new.self c.of_file-asked.result c.create.new.room _ c.keep.ensures)
 
 pub returns-in-Ok-clause-takes : goal.returns-in-Ok-clause-takes
 returns-in-Ok-clause-takes g c = λ name. ok_of c.look_at.result _

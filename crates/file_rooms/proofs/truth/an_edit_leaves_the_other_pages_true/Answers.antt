@@ -1,0 +1,6 @@
+use Rattle.std.proofs.Common.{◌≡◌, ℕ}
+use Rattle.file_rooms.proofs.StaysTrue.{edited_true}
+use Rattle.file_rooms.proofs.truth.an_edit_leaves_the_other_pages_true.Goals as goal
+
+pub returns : goal.returns
+returns g c = λ old new page known. edited_true g.P.Ground old new (λ (p : ℕ). p ≡ page) known
