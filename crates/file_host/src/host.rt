@@ -116,6 +116,10 @@ impl<V: StoredFile + Drop, I: Drop, O: Drop> Disk for FileHost<V, I, O> {
         self.size
     }
 
+    fn faults(&self) -> u64 {
+        self.disk.count
+    }
+
     fn read(&mut self, at: u64, out: &mut [u8]) -> Result<(), Failed> {
         let done = match &self.file {
             Some(file) => file.read_exact_at(out, at),

@@ -69,6 +69,10 @@ impl<'a> Disk for LentHost<'a> {
         self.image.len() as u64
     }
 
+    fn faults(&self) -> u64 {
+        u64::MAX
+    }
+
     fn read(&mut self, at: u64, out: &mut [u8]) -> Result<(), Failed> {
         read_from(self.image, at as usize, out);
         Ok(())

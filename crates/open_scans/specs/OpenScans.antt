@@ -1,9 +1,10 @@
 -- The open scans of a session, each with the group of frames that it reads through.
 use Rattle.std.specs.Prelude.{◌≡◌, ◌≤◌, ◌<◌, ◌+◌, ℕ, Bool, List, IfSome, bytes_eq, position, slice_get, Option, Some}
+use Rattle.ex_base.specs.declared.faults.PortFault.{PortFault}
 use Rattle.ex_base.specs.declared.geometry.Geometry.{Geometry}
 use Rattle.scans.specs.Scans.{Position, scan_size, next_len, moved_by}
 use Rattle.ex_base.specs.Area.{NamesLeaf}
-use Rattle.trees.specs.Damage.{IsSoundRoot}
+use Rattle.trees.specs.Damage.{IsRootReadFault, IsSoundRoot}
 use Rattle.trees.specs.Roots.{IsRootFor}
 use Rattle.trees.specs.Trees.{Units}
 use Rattle.volume_model.specs.Held.{HeldScan}
@@ -52,6 +53,10 @@ row_after n row = at_position row.scan.name row.group (moved_by (given_len n row
 -- end are what names them.
 abbrev pub HasSoundRest : Geometry → Units → ℕ → Position → Type 0
 HasSoundRest g units n place = IfSome place.root (λ root. (byte : ℕ) → place.pos ≤ byte → byte < place.pos + next_len n place → IsSoundRoot g units (NamesLeaf g) root byte byte)
+
+-- what stops a read of the next bytes of a scan is no page beside the ways from its root to these bytes
+abbrev pub IsNextFault : Geometry → Units → ℕ → Position → PortFault → Type 0
+IsNextFault g units n place fault = IfSome place.root (λ root. IsRootReadFault g units root place.pos (next_len n place) fault)
 
 -- A fact of the scan at an index.
 abbrev pub AtRow : List OpenRow → ℕ → (OpenRow → Type 0) → Type 0

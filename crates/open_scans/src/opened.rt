@@ -5,10 +5,10 @@ ghost use Rattle.ex_base.specs.Bytes.{bytes_at};
 ghost use Rattle.ex_base.specs.Ports.{Keeps, HasCause, IsDamage};
 ghost use Rattle.ex_base.specs.declared.faults.PortFault.TheVariants.{Memory};
 ghost use Rattle.ex_base.specs.declared.names.Root.{Root};
-ghost use Rattle.open_scans.specs.OpenScans.{HasSoundRest, is_named};
+ghost use Rattle.open_scans.specs.OpenScans.{HasSoundRest, IsNextFault, is_named};
 ghost use Rattle.scans.specs.Scans.{Opened, next_len, moved_by};
 ghost use Rattle.table_model.specs.Machines.{scans_most};
-ghost use Rattle.trees.specs.Damage.{IsRootFault, IsWhole};
+ghost use Rattle.trees.specs.Damage.{IsWhole};
 ghost use Rattle.trees.specs.Roots.{IsRootFor};
 
 use ex_base::{PortFault, ReadBlocks, Root};
@@ -84,8 +84,8 @@ impl OpenScan {
             → HasSoundRest (B.geometry blocks.old) (B.unit blocks.old) n
             (position_of self.old.scan)) }
         ensures fault { IfErr result (λ fault. B.tells blocks.old
-            → IfSome self.old.scan.root (λ root.
-            IsRootFault (B.geometry blocks.old) (B.unit blocks.old) root fault)) }
+            → IsNextFault (B.geometry blocks.old) (B.unit blocks.old) n
+            (position_of self.old.scan) fault) }
         ensures sound { IfErr result (λ fault. IsDamage fault → B.tells blocks.old
             → (root : Root) → self.old.scan.root ≡ Some root
             → IsWhole (B.geometry blocks.old) (B.unit blocks.old) root → ⊥) }
@@ -121,8 +121,8 @@ fn copy_next<B: ReadBlocks>(
         → out.new ≡ bytes_at opened scan.old.pos (next_len n scan.old)) }
     ensures way { OnOk result (B.tells blocks.old
         → HasSoundRest (B.geometry blocks.old) (B.unit blocks.old) n scan.old) }
-    ensures fault { IfErr result (λ fault. B.tells blocks.old → IfSome scan.old.root (λ root.
-        IsRootFault (B.geometry blocks.old) (B.unit blocks.old) root fault)) }
+    ensures fault { IfErr result (λ fault. B.tells blocks.old
+        → IsNextFault (B.geometry blocks.old) (B.unit blocks.old) n scan.old fault) }
     ensures sound { IfErr result (λ fault. IsDamage fault → B.tells blocks.old → (root : Root)
         → scan.old.root ≡ Some root
         → IsWhole (B.geometry blocks.old) (B.unit blocks.old) root → ⊥) }
@@ -265,8 +265,8 @@ impl OpenScans {
             → AtRow self.old index (λ row. HasSoundRest (B.geometry blocks.old)
             (B.unit blocks.old) n (position_of row.scan))) }
         ensures fault { IfErr result (λ fault. B.tells blocks.old
-            → AtRow self.old index (λ row. IfSome row.scan.root (λ root.
-            IsRootFault (B.geometry blocks.old) (B.unit blocks.old) root fault))) }
+            → AtRow self.old index (λ row. IsNextFault (B.geometry blocks.old)
+            (B.unit blocks.old) n (position_of row.scan) fault)) }
         ensures sound { IfErr result (λ fault. IsDamage fault → B.tells blocks.old
             → AtRow self.old index (λ row. (root : Root) → row.scan.root ≡ Some root
             → IsWhole (B.geometry blocks.old) (B.unit blocks.old) root → ⊥)) }

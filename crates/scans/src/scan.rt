@@ -5,7 +5,7 @@ ghost use Rattle.ex_base.specs.declared.names.Root.{Root};
 ghost use Rattle.ex_base.specs.Area.{NamesLeaf};
 ghost use Rattle.ex_base.specs.Bytes.{bytes_at};
 ghost use Rattle.ex_base.specs.Ports.{Keeps, HasCause, IsDamage};
-ghost use Rattle.trees.specs.Damage.{IsRootFault, IsWhole, IsSoundRoot};
+ghost use Rattle.trees.specs.Damage.{IsRootReadFault, IsWhole, IsSoundRoot};
 ghost use Rattle.trees.specs.Trees.{RootSpells};
 ghost use Rattle.trees.specs.Roots.{IsRootFor};
 
@@ -67,7 +67,7 @@ fn read_piece<B: ReadBlocks>(
         → IsSoundRoot (B.geometry blocks.old) (B.unit blocks.old)
         (NamesLeaf (B.geometry blocks.old)) root.now byte byte) }
     ensures fault { IfErr result (λ fault. B.tells blocks.old
-        → IsRootFault (B.geometry blocks.old) (B.unit blocks.old) root.now fault) }
+        → IsRootReadFault (B.geometry blocks.old) (B.unit blocks.old) root.now pos len fault) }
     ensures sound { IfErr result (λ fault. B.tells blocks.old
         → IsWhole (B.geometry blocks.old) (B.unit blocks.old) root.now → IsDamage fault → ⊥) }
     ensures kept { Keeps B.Ground blocks.old blocks.new }
@@ -144,7 +144,8 @@ impl Scan {
             → IsSoundRoot (B.geometry blocks.old) (B.unit blocks.old)
             (NamesLeaf (B.geometry blocks.old)) root byte byte)) }
         ensures fault { IfErr result (λ fault. B.tells blocks.old → IfSome self.old.root (λ root.
-            IsRootFault (B.geometry blocks.old) (B.unit blocks.old) root fault)) }
+            IsRootReadFault (B.geometry blocks.old) (B.unit blocks.old) root
+            self.old.pos (next_len n self.old) fault)) }
         ensures sound { IfErr result (λ fault. IsDamage fault → B.tells blocks.old → (root : Root)
             → self.old.root ≡ Some root
             → IsWhole (B.geometry blocks.old) (B.unit blocks.old) root → ⊥) }

@@ -93,6 +93,10 @@ impl Disk for Watched {
         self.host.size()
     }
 
+    fn faults(&self) -> u64 {
+        self.host.faults()
+    }
+
     fn read(&mut self, at: u64, out: &mut [u8]) -> Result<(), Failed> {
         note(&mut self.kinds, Kind::Read);
         self.host.read(at, out)

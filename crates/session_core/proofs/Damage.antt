@@ -2,6 +2,7 @@
 use Rattle.std.proofs.Common.{◌≡◌, ◌∙◌, ◌<◌, ℕ, List, length, All, arith, Option, Some, None, Result, Ok, Err, refl, sym, ap, subst, ltb, ◌^◌, ◌-◌, true, Bool}
 use Rattle.std.specs.Prelude.{Contains, IfErr, IfOk, IfSome, IsSome, IsTrue, slice_get, unwrap_or}
 use Rattle.std.proofs.lemmas.Option.{get_or_from_slice_get, slice_get_within}
+use Rattle.std.proofs.lemmas.Result.{IfErr-weaker}
 use Rattle.ex_base.specs.declared.ground.Ground as ground
 use Rattle.ex_base.specs.declared.faults.PortFault.{PortFault}
 use Rattle.ex_base.specs.declared.faults.PortFault.TheVariants as fault
@@ -15,7 +16,8 @@ use Rattle.ex_base.specs.Ports.{IsDamage}
 use Rattle.ex_base.specs.Seen.{file_page_seen, nothing_seen, catalog_seen}
 use Rattle.slotted_pages.specs.Reads.{IsPage}
 use Rattle.object_records.specs.Record.{Content, Small, Large}
-use Rattle.open_scans.specs.OpenScans.{AtRow, OpenRow}
+use Rattle.open_scans.specs.OpenScans.{AtRow, IsNextFault, OpenRow, position_of}
+use Rattle.scans.specs.Scans.{next_len}
 use Rattle.open_scans.proofs.Rows.{row_there}
 use Rattle.volume_model.specs.Held.{root_here}
 use Rattle.volume_port.proofs.GivingUp.{only_one}
@@ -30,7 +32,8 @@ use Rattle.session_views.specs.declared.stop.Stop.{Stop}
 use Rattle.session_views.specs.declared.stop.Stop.TheVariants as stop
 use Rattle.tree_store.specs.Stored.{unit_bytes}
 use Rattle.volume_port.specs.Reading.{TellsBytes}
-use Rattle.trees.specs.Damage.{IsRootFault}
+use Rattle.trees.specs.Damage.{IsRootFault, IsRootReadFault}
+use Rattle.trees.proofs.ReadFaults.{root_read_walks}
 use Rattle.volume_edits.specs.Damage as damage
 use Rattle.volume_edits.specs.Damage.{IsDamageOf, IsVolumeFault, IsFaultOver}
 use Rattle.volume_edits.proofs.Damage.{fault_wider}
@@ -91,11 +94,16 @@ tree_told {T} g s {a} {old} root said result is over tells = told_err said resul
         (subst (λ x. IsRootFault (g.geometry s) x root (fault.Damaged page want got)) over.port.unit (h (over.tells t)))
 
 -- The damage of the tree of the scan at an index, which a port over the session reads.
-pub scan_told : {T S : Type 0} (g : ground.Ghosts S) (s : S) {a : Outside} {old : SessionState} (b : Outside) (index : ℕ) (said : Result T PortFault) (result : Result T Stop) → result ≡ stop_or said → IsPortOver g s a old → b.disk ≡ a.disk
-    → (row : OpenRow) → slice_get old.scans index ≡ Some row → IfErr said (λ f. g.tells s → IfSome row.scan.root (λ root. IsRootFault (g.geometry s) (g.unit s) root f)) → (row.scan.root ≡ None → IfErr said (λ f. f ≡ fault.Memory))
+pub scan_told : {T S : Type 0} (g : ground.Ghosts S) (s : S) {a : Outside} {old : SessionState} (b : Outside) (index n : ℕ) (said : Result T PortFault) (result : Result T Stop) → result ≡ stop_or said → IsPortOver g s a old → b.disk ≡ a.disk
+    → (row : OpenRow) → slice_get old.scans index ≡ Some row → IfErr said (λ f. g.tells s → IsNextFault (g.geometry s) (g.unit s) n (position_of row.scan) f) → (row.scan.root ≡ None → IfErr said (λ f. f ≡ fault.Memory))
     → IfErr result (TellsDamage a b old no_version)
-scan_told {T} g s {a} {old} b index said result is over disk row at tells held = told_err said result is (TellsDamage a b old no_version) (by said tells held)
+scan_told {T} g s {a} {old} b index n said result is over disk row at tells held =
+    told_err said result is (TellsDamage a b old no_version) (by said (IfErr-weaker said _ _ (λ f h t. next_walks row.scan.root f (h t)) tells) held)
   where
+    next_walks : (o : Option Root) (f : PortFault) → IfSome o (λ root. IsRootReadFault (g.geometry s) (g.unit s) root row.scan.pos (next_len n (position_of row.scan)) f) → IfSome o (λ root. IsRootFault (g.geometry s) (g.unit s) root f)
+    next_walks None f h = tt
+    next_walks (Some root) f h = root_read_walks (g.geometry s) (g.unit s) root row.scan.pos (next_len n (position_of row.scan)) f h
+
     no_damage : (page : PageNo) (want got : Seen) → fault.Damaged page want got ≡ fault.Memory → ⊥
     no_damage page want got same = subst IsDamage same tt
 

@@ -4,7 +4,7 @@ ghost use Rattle.std.specs.Prelude.{◌≡◌, ℕ, List, ◌≤◌, ◌+◌, le
 ghost use Rattle.ex_base.specs.Bytes.{bytes_at};
 ghost use Rattle.ex_base.specs.Ports.{Keeps, HasCause, IsDamage};
 ghost use Rattle.trees.specs.Trees.{RootSpells};
-ghost use Rattle.trees.specs.Damage.{IsRootFault, IsWhole, IsSoundRoot};
+ghost use Rattle.trees.specs.Damage.{IsRootReadFault, IsWhole, IsSoundRoot};
 ghost use Rattle.trees.specs.Roots.{IsRootFor};
 
 use ex_base::{PortFault, ROOT_LEAST, ReadBlocks, Root};
@@ -29,7 +29,8 @@ pub fn read<B: ReadBlocks>(
         → byte < pos + length out.old → IsSoundRoot (B.geometry blocks.old) (B.unit blocks.old)
         (NamesLeaf (B.geometry blocks.old)) root.now byte byte) }
     ensures fault { IfErr result (λ fault. B.tells blocks.old
-        → IsRootFault (B.geometry blocks.old) (B.unit blocks.old) root.now fault) }
+        → IsRootReadFault (B.geometry blocks.old) (B.unit blocks.old) root.now
+        pos (length out.old) fault) }
     ensures sound { IfErr result (λ fault. B.tells blocks.old
         → IsWhole (B.geometry blocks.old) (B.unit blocks.old) root.now → IsDamage fault → ⊥) }
     ensures kept { Keeps B.Ground blocks.old blocks.new }

@@ -11,6 +11,7 @@ pub mod Parts
 pub mod Sizes
 pub mod Reading
 pub mod Blame
+pub mod ReadFaults
 pub mod Sound
 pub mod Ways
 pub mod Counts

@@ -15,12 +15,12 @@ use Rattle.trees.specs.declared.rows.Part.{Part}
 use Rattle.ex_base.specs.declared.faults.PortFault.{PortFault}
 use Rattle.ex_base.specs.declared.faults.PortFault.TheVariants.{Disk, Memory, Damaged}
 use Rattle.trees.specs.Node.{pairs_on}
-use Rattle.trees.specs.Damage.{IsLeafFault, IsSoundWay, IsWalkFault, IsNodeAt}
+use Rattle.trees.specs.Damage.{IsSoundWay, IsWalkFault, IsNodeAt}
 use Rattle.trees.specs.Spans.{IsSpan}
 use Rattle.trees.proofs.SpanLaws.{span_trees, span_bytes}
-use Rattle.trees.proofs.Blame.{any_at}
 use Rattle.trees.specs.Rows.{row_bytes, row_size, parts_of, AreTrees}
 use Rattle.trees.proofs.TreeLaws.{AreWhole}
+use Rattle.trees.proofs.Blame.{any_at}
 use Rattle.trees.proofs.Reading.{no_part, row_trees, row_spells, trees_back, bytes_back}
 use Rattle.trees.proofs.Sizes.{around_row, size-front}
 use Rattle.trees.proofs.Laid.{part_min, row_length}
@@ -54,14 +54,6 @@ leaf_read u l len pos tree out is fits read =
 
 pub leaf_way : (geo : Geometry) (u : Units) (l least : ℕ) (tree : Part) (first last : ℕ) → l ≡ 0 → NamesLeaf geo tree.page.0 → IsSoundWay geo u (NamesLeaf geo) l least (tree ∷ []) first last
 leaf_way geo u l least tree first last is named = subst (λ k. IsSoundWay geo u (NamesLeaf geo) k least (tree ∷ []) first last) (sym is) (λ inside. named, λ behind. tt)
-
-pub leaf_walk : (geo : Geometry) (u : Units) (l least : ℕ) (tree : Part) (fault : PortFault) → l ≡ 0 → IsLeafFault geo tree.page fault → IsWalkFault geo u l least (tree ∷ []) fault
-leaf_walk geo u l least tree fault is h = subst (λ k. IsWalkFault geo u k least (tree ∷ []) fault) (sym is) (at_leaf fault h)
-  where
-    at_leaf : (fault : PortFault) → IsLeafFault geo tree.page fault → IsWalkFault geo u 0 least (tree ∷ []) fault
-    at_leaf Disk h = tt
-    at_leaf Memory h = tt
-    at_leaf (Damaged at want got) h = inl h
 
 -- a fault on the way down from one tree of a row
 pub walk_tree : (geo : Geometry) (u : Units) (level least i : ℕ) (row : List Part) (fault : PortFault) → i < length row → IsWalkFault geo u level least (get_or row i no_part ∷ []) fault → IsWalkFault geo u level least row fault
@@ -146,6 +138,13 @@ module _ {S : Type 0} (g : ground.Ghosts S) where
         bytes = λ told trees. ap (λ k. take k out) same ∙ h.bytes told trees ∙ ap (λ k. take k (drop pos (row_bytes (g.unit old) level row))) (sym same);
         way = λ told byte low high. h.way told byte low (omega (arith, high, same));
       }
+
+  -- where in the range the bytes of a tree stand that are read next
+  pub part_place : (old now : S) (level least : ℕ) (row : List Part) (pos : ℕ) (before out : List ℕ) (i at done n : ℕ) → n ≡ min (length out - done) ((get_or row i no_part).size - at) → n ≢ 0
+      → ReadSoFar g old now level least row pos before out i at done → (pos + done ≡ row_size (take i row) + at) × (done + n ≤ length before)
+  part_place old now level least row pos before out i at done n n_is some h =
+      let numbers = next (get_or row i no_part).size (row_size (take i row)) (length before) pos at done n h.at_is h.done_is (n_is ∙ ap (λ k. min (k - done) ((get_or row i no_part).size - at)) h.len) in
+      ((numbers.place some).0, omega (arith, numbers.next_done))
 
   -- so many bytes of a tree are read
   pub read_more : (old now new : S) (level least : ℕ) (row : List Part) (pos : ℕ) (before out after p : List ℕ) (i at done n m : ℕ) → g.ready old → m ≡ n → i < length row → n ≡ min (length out - done) ((get_or row i no_part).size - at) → n ≢ 0

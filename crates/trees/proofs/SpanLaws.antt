@@ -15,14 +15,14 @@ use Rattle.trees.proofs.Children.{length-counts}
 use Rattle.trees.specs.Trees.{Units}
 use Rattle.trees.specs.declared.rows.Part.{Part}
 use Rattle.trees.specs.Rows.{parts_of, row_size, row_bytes, size_of_part, AreTrees, FitLeaves, IsFilled, IsRowOn}
-use Rattle.trees.specs.Damage.{IsNodeAt, IsSoundWay, IsWalkFault, NamesNode}
+use Rattle.trees.specs.Damage.{IsNodeAt, IsReadFault, IsSoundWay, NamesNode}
 use Rattle.trees.specs.Spans.{IsSpan}
 use Rattle.trees.proofs.TreeLaws.{AreWhole}
 use Rattle.trees.proofs.Parts.{start-next, halves_fit}
 use Rattle.trees.proofs.Laid.{row_length}
 use Rattle.trees.proofs.Over.{bytes_app}
 use Rattle.trees.proofs.Ways.{way_inside}
-use Rattle.trees.proofs.Blame.{walk_part}
+use Rattle.trees.proofs.ReadFaults.{read_inside}
 
 -- the node that stands where its parent says
 pub node_here : (geo known : Geometry) (u : Units) (level total least page : ℕ) (bytes : List ℕ) → known ≡ geo → bytes ≡ u page → NamesNode known page → IsRowOn known bytes level total (parts_of 0 (pairs_on bytes)) → IsFilled known level least (parts_of 0 (pairs_on bytes))
@@ -120,6 +120,8 @@ module _ (row trees : List Part) (pos len inside : ℕ) (s : IsSpan row pos len 
       (way_inside geo u leaf level least (take s.first row) trees (drop s.count (drop s.first row)) byte byte (omega (arith, s.place, low)) (omega (arith, s.place, low)) (omega (arith, s.place, s.enough, high))
       (ways (byte - row_size (take s.first row)) (omega (arith, s.place, low)) (omega (arith, s.place, low, high))))
 
-  -- a fault on the way down from them
-  pub span_fault : (geo : Geometry) (u : Units) (level least : ℕ) (fault : PortFault) → IsWalkFault geo u level least trees fault → IsWalkFault geo u level least row fault
-  span_fault geo u level least fault h = walk_part geo u level least s.first s.count row fault (subst (λ r. IsWalkFault geo u level least r fault) s.parts h)
+  -- what stops a read of them
+  pub span_fault : (geo : Geometry) (u : Units) (level least : ℕ) (fault : PortFault) → IsReadFault geo u level least trees inside len fault → IsReadFault geo u level least row pos len fault
+  span_fault geo u level least fault h =
+      subst (λ r. IsReadFault geo u level least r pos len fault) (sym around)
+      (read_inside geo u level least (take s.first row) trees (drop s.count (drop s.first row)) inside len pos len fault (omega (arith, s.place)) (omega (arith, s.place)) h)

@@ -1,5 +1,5 @@
 -- What is told of a page that is not what names it, and which ways down a tree are sound.
-use Rattle.std.specs.Prelude.{◌≡◌, ◌≢◌, ◌⊎◌, ◌<◌, ◌≤◌, ◌-◌, ℕ, zero, suc, List, [], ◌∷◌, Option, Some, None, ⊤}
+use Rattle.std.specs.Prelude.{◌≡◌, ◌≢◌, ◌⊎◌, ◌<◌, ◌≤◌, ◌+◌, ◌-◌, ℕ, zero, suc, List, [], ◌∷◌, Option, Some, None, ⊤}
 use Rattle.std.specs.List.{AllByRecursion}
 use Rattle.ex_base.specs.declared.faults.Seen.{Seen}
 use Rattle.ex_base.specs.declared.faults.PortFault.{PortFault}
@@ -8,6 +8,7 @@ use Rattle.ex_base.specs.declared.geometry.Geometry.{Geometry}
 use Rattle.ex_base.specs.declared.names.PageNo.{PageNo}
 use Rattle.ex_base.specs.declared.names.Root.{Root}
 use Rattle.ex_base.specs.Area.{InPageArea, NamesLeaf, catalog_no}
+use Rattle.ex_base.specs.Ports.{IsDamage}
 use Rattle.ex_base.specs.Seen.{node_seen, leaf_seen, nothing_seen}
 use Rattle.trees.specs.declared.Pair.{Pair}
 use Rattle.trees.specs.Node.{PairsOf, level_on, pairs_on, total_of}
@@ -61,6 +62,30 @@ IsWalkFault g units (suc l) least row (Damaged at want got) = AnyPart (λ part.
     IsNodeFault g (units part.page.0) (suc l) part.size least part.page.0 (Damaged at want got)
     ⊎ (IsNodeAt g units (suc l) part.size least part.page.0 × IsWalkFault g units l g.fan (parts_of 0 (pairs_on (units part.page.0))) (Damaged at want got))) row
 
+-- ---- faults of a read
+
+-- P holds of the tree of a row that has the byte at a position, and of this position inside it
+abbrev pub AtByte : (Part → ℕ → Type 0) → List Part → ℕ → Type 0
+AtByte P [] at = ⊥
+AtByte P (part ∷ row) at = ((at < part.size) × P part at) ⊎ ((part.size ≤ at) × AtByte P row (at - part.size))
+
+-- P holds of one of so many positions from a first one on
+abbrev pub AnyByte : (ℕ → Type 0) → ℕ → ℕ → Type 0
+AnyByte P pos len = (byte : ℕ) × ((pos ≤ byte) × (byte < pos + len) × P byte)
+
+-- The fault tells of a page on the way down from a row of trees of this level to the byte at a position: of a leaf or a node that isn't what names it,
+-- below nodes that are what names them.
+abbrev pub IsByteFault : Geometry → Units → ℕ → ℕ → List Part → ℕ → PortFault → Type 0
+IsByteFault g units zero least row at fault = AtByte (λ part inside. IsLeafFault g part.page fault) row at
+IsByteFault g units (suc l) least row at fault = AtByte (λ part inside.
+    IsNodeFault g (units part.page.0) (suc l) part.size least part.page.0 fault
+    ⊎ (IsNodeAt g units (suc l) part.size least part.page.0 × IsByteFault g units l g.fan (parts_of 0 (pairs_on (units part.page.0))) inside fault)) row at
+
+-- The fault is the port's own, or tells of a page on the way down from a row of trees to one of so many bytes from a position on: no page beside these ways
+-- stops a read of the bytes.
+abbrev pub IsReadFault : Geometry → Units → ℕ → ℕ → List Part → ℕ → ℕ → PortFault → Type 0
+IsReadFault g units level least row pos len fault = IsDamage fault → AnyByte (λ byte. IsByteFault g units level least row byte fault) pos len
+
 -- ---- what is found sound
 
 -- P holds of the tree of a row that has all bytes from a first to a last position, where one has them all, and of these positions inside it
@@ -96,6 +121,10 @@ root_row root = root_row_at root.size root.page
 -- the fault is the port's own, or tells of a page on the way down from a root
 abbrev pub IsRootFault : Geometry → Units → Root → PortFault → Type 0
 IsRootFault g units root fault = IsWalkFault g units root.height 2 (root_row root) fault
+
+-- the fault is the port's own, or tells of a page on the way down from a root to one of so many bytes from a position on
+abbrev pub IsRootReadFault : Geometry → Units → Root → ℕ → ℕ → PortFault → Type 0
+IsRootReadFault g units root pos len fault = IsReadFault g units root.height 2 (root_row root) pos len fault
 
 -- the way down from a root to the bytes from a first to a last position is sound
 abbrev pub IsSoundRoot : Geometry → Units → (ℕ → Type 0) → Root → ℕ → ℕ → Type 0

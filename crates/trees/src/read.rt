@@ -3,7 +3,7 @@ ghost use Rattle.std.specs.Prelude.{◌≡◌, ◌≤◌, ◌<◌, ◌+◌, ◌-
 ghost use Rattle.ex_base.specs.Area.{NamesLeaf};
 ghost use Rattle.ex_base.specs.Ports.{Keeps, HasCause};
 ghost use Rattle.ex_base.specs.Sizes.{leaf_bytes};
-ghost use Rattle.trees.specs.Damage.{IsLeafFault, IsSoundWay, IsWalkFault};
+ghost use Rattle.trees.specs.Damage.{IsLeafFault, IsReadFault, IsSoundWay};
 ghost use Rattle.trees.specs.Rows.{row_size, row_bytes, AreTrees, FitLeaves};
 
 use crate::faults::no_leaf;
@@ -61,7 +61,8 @@ fn read_tree<B: ReadBlocks>(
         → IsSoundWay (B.geometry blocks.old) (B.unit blocks.old) (NamesLeaf (B.geometry blocks.old))
         level least (tree ∷ []) byte byte) }
     ensures fault { IfErr result (λ fault. B.tells blocks.old
-        → IsWalkFault (B.geometry blocks.old) (B.unit blocks.old) level least (tree ∷ []) fault) }
+        → IsReadFault (B.geometry blocks.old) (B.unit blocks.old) level least (tree ∷ [])
+        pos (length out.old) fault) }
     ensures kept { Keeps B.Ground blocks.old blocks.new }
     ensures cause { HasCause (B.faults blocks.old) (B.faults blocks.new) result }
 {
@@ -96,7 +97,8 @@ pub fn read_row<B: ReadBlocks>(
         → IsSoundWay (B.geometry blocks.old) (B.unit blocks.old) (NamesLeaf (B.geometry blocks.old))
         level least row.now byte byte) }
     ensures fault { IfErr result (λ fault. B.tells blocks.old
-        → IsWalkFault (B.geometry blocks.old) (B.unit blocks.old) level least row.now fault) }
+        → IsReadFault (B.geometry blocks.old) (B.unit blocks.old) level least row.now
+        pos (length out.old) fault) }
     ensures kept { Keeps B.Ground blocks.old blocks.new }
     ensures cause { HasCause (B.faults blocks.old) (B.faults blocks.new) result }
 {

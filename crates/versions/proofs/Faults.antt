@@ -1,5 +1,5 @@
 -- What a call on versions tells, from what the calls below it tell.
-use Rattle.std.proofs.Common.{◌≡◌, ℕ, Bool, List, Some, sym, ap, subst, ◌∙◌}
+use Rattle.std.proofs.Common.{◌≡◌, ℕ, ◌+◌, ◌≤◌, Bool, List, Some, sym, ap, subst, ◌∙◌, arith}
 use Rattle.ex_base.specs.declared.faults.Seen.{Seen}
 use Rattle.ex_base.specs.declared.faults.PortFault.{PortFault}
 use Rattle.ex_base.specs.declared.faults.PortFault.TheVariants.{Disk, Memory, Damaged}
@@ -14,9 +14,10 @@ use Rattle.ex_base.specs.Seen.{nothing_seen, record_seen}
 use Rattle.file_bodies.specs.Damage.{IsBelongingFault, IsPlaceFault}
 use Rattle.file_bodies.proofs.Blame.{carried}
 use Rattle.trees.specs.Trees.{Units}
-use Rattle.trees.specs.Damage.{IsRootFault}
+use Rattle.trees.specs.Damage.{IsRootFault, IsRootReadFault}
+use Rattle.trees.proofs.ReadFaults.{root_read_walks}
 use Rattle.versions.specs.Versions.{place_of}
-use Rattle.versions.specs.Damage.{record_fault, root_fault, HasSoundWay, IsFoundAnd, IsFoundAt, IsReadThrough, IsRootAt, IsPutFault, IsBytesFault, IsVersionFault, IsStepFault, in_file, ports, no_place, no_limits, ports_own, unlike, bad_made, looking, small, own, of_page, unread}
+use Rattle.versions.specs.Damage.{record_fault, root_fault, HasSoundWay, IsFoundAnd, IsFoundAt, IsReadThrough, IsRootAt, IsPutFault, IsBytesFault, IsBytesFaultBy, IsVersionFault, IsVersionFaultBy, IsVersionReadFault, IsStepFault, no_tree, in_file, ports, no_place, no_limits, ports_own, in_tree, unlike, bad_made, looking, small, large, own, of_page, unread}
 use Rattle.versions.specs.declared.finding.Found.{Found}
 use Rattle.versions.proofs.Standing.{large_content}
 
@@ -45,6 +46,30 @@ step_version geo units image place oid fault at (own never) = small (ports_own n
 step_version geo units image place oid fault at (of_page h) = looking (in_file (subst (λ (p : Place). IsBelongingFault geo image p.page.0 fault) at h))
 step_version geo units image place oid fault at (unread is) = small (unlike (is ∙ ap record_fault at))
 
+-- ---- what is told of a tree
+
+pub bytes_by : (geo : Geometry) (P Q : Root → PortFault → Type 0) (oid : Oid) (root : Root) (fault : PortFault) → (P root fault → Q root fault) → IsBytesFaultBy geo P oid root fault → IsBytesFaultBy geo Q oid root fault
+bytes_by geo P Q oid root fault map (ports_own never) = ports_own never
+bytes_by geo P Q oid root fault map (in_tree h) = in_tree (map h)
+bytes_by geo P Q oid root fault map (unlike is) = unlike is
+bytes_by geo P Q oid root fault map (bad_made made never is) = bad_made made never is
+
+pub version_by : (geo : Geometry) (P Q : Root → PortFault → Type 0) (image : ℕ → List ℕ) (oid : Oid) (fault : PortFault) → ((root : Root) → P root fault → Q root fault) → IsVersionFaultBy geo P image oid fault → IsVersionFaultBy geo Q image oid fault
+version_by geo P Q image oid fault map (looking h) = looking h
+version_by geo P Q image oid fault map (small h) = small (bytes_by geo P Q oid no_tree fault (map no_tree) h)
+version_by geo P Q image oid fault map (large root at h) = large root at (bytes_by geo P Q oid root fault (map root) h)
+
+-- what a read tells is told of the version
+pub read_version : (geo : Geometry) (units : Units) (image : ℕ → List ℕ) (oid : Oid) (pos len : ℕ) (fault : PortFault) → IsVersionReadFault geo units image oid pos len fault → IsVersionFault geo units image oid fault
+read_version geo units image oid pos len fault h =
+    version_by geo (λ root. IsRootReadFault geo units root pos len) (IsRootFault geo units) image oid fault (λ root. root_read_walks geo units root pos len fault) h
+
+-- a read of some of the bytes tells what a read of more may tell
+pub read_of_more : (geo : Geometry) (units : Units) (image : ℕ → List ℕ) (oid : Oid) (pos len most : ℕ) (fault : PortFault) → pos + len ≤ most → IsVersionReadFault geo units image oid pos len fault → IsVersionReadFault geo units image oid 0 most fault
+read_of_more geo units image oid pos len most fault within h =
+    version_by geo (λ root. IsRootReadFault geo units root pos len) (λ root. IsRootReadFault geo units root 0 most) image oid fault
+    (λ root told damage. let one = told damage in (one.0, (omega arith, omega (arith, within, one.1.1), one.1.2))) h
+
 -- ---- the root of a large version
 
 pub root_at : (geo : Geometry) (image : ℕ → List ℕ) (oid : Oid) (found : Found) (root : Root) → IsFoundAt geo image oid found → found.root ≡ Some root → IsRootAt image oid root
@@ -63,8 +88,8 @@ module _ {S : Type 0} (g : ground.Ghosts S) (a b : S) (kept : Keeps g a b) where
   over_units P h told =
       carried g a b (λ y u. P y (g.unit a) u) kept (λ told_b. subst (λ (units : Units). P (g.geometry b) units (g.image b)) kept.units (h told_b)) told
 
-  pub tree_kept : (root : Root) (fault : PortFault) → (g.tells b → IsRootFault (g.geometry b) (g.unit b) root fault) → g.tells a → IsRootFault (g.geometry a) (g.unit a) root fault
-  tree_kept root fault h told = over_units (λ y units image. IsRootFault y units root fault) h told
+  pub tree_kept : (root : Root) (pos len : ℕ) (fault : PortFault) → (g.tells b → IsRootReadFault (g.geometry b) (g.unit b) root pos len fault) → g.tells a → IsRootReadFault (g.geometry a) (g.unit a) root pos len fault
+  tree_kept root pos len fault h told = over_units (λ y units image. IsRootReadFault y units root pos len fault) h told
 
   pub way_kept : (pos len : ℕ) (root : Root) → (g.tells b → HasSoundWay (g.geometry b) (g.unit b) pos len root) → g.tells a → HasSoundWay (g.geometry a) (g.unit a) pos len root
   way_kept pos len root h told = over_units (λ y units image. HasSoundWay y units pos len root) h told
@@ -77,6 +102,9 @@ module _ {S : Type 0} (g : ground.Ghosts S) (a b : S) (kept : Keeps g a b) where
 
   pub version_kept : (oid : Oid) (fault : PortFault) → (g.tells b → IsVersionFault (g.geometry b) (g.unit b) (g.image b) oid fault) → g.tells a → IsVersionFault (g.geometry a) (g.unit a) (g.image a) oid fault
   version_kept oid fault h told = over_units (λ y units image. IsVersionFault y units image oid fault) h told
+
+  pub read_kept : (oid : Oid) (pos len : ℕ) (fault : PortFault) → (g.tells b → IsVersionReadFault (g.geometry b) (g.unit b) (g.image b) oid pos len fault) → g.tells a → IsVersionReadFault (g.geometry a) (g.unit a) (g.image a) oid pos len fault
+  read_kept oid pos len fault h told = over_units (λ y units image. IsVersionReadFault y units image oid pos len fault) h told
 
 -- a record is written in a later state
 pub put_later : {S : Type 0} (g : ground.Ghosts S) (a m : S) (place : Place) (oid : Oid) (made root : Root) (fault : PortFault) → g.leads a m → place ≡ place_of oid

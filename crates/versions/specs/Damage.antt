@@ -15,7 +15,7 @@ use Rattle.ex_base.specs.Seen.{header_seen, nothing_seen, record_seen}
 use Rattle.file_index.specs.Damage.{every_page}
 use Rattle.file_bodies.specs.Damage.{page_from, HasListed, IsBelongingFault, IsListedFault, IsLook, IsLookFault}
 use Rattle.trees.specs.Trees.{Units}
-use Rattle.trees.specs.Damage.{IsRootFault, IsSoundRoot}
+use Rattle.trees.specs.Damage.{IsRootFault, IsRootReadFault, IsSoundRoot}
 use Rattle.trees.specs.Roots.{IsRootFor}
 use Rattle.versions.specs.Listed.{rank_of, start_rank}
 use Rattle.versions.specs.Versions.{place_of}
@@ -85,23 +85,34 @@ pub data IsPutFault (g : Geometry) (place : Place) (root : Root) (fault : PortFa
   no_place : fault ≡ record_fault place → IsPutFault g place root fault
   no_limits : (IsRootFor g root → IsPlaced root.page → ⊥) → fault ≡ root_fault place.page root → IsPutFault g place root fault
 
--- What a call on the bytes of a root tells: the port's own faults; of its tree; that the record of the version isn't as the call asks; or that the root
--- that it made is out of its limits.
-pub data IsBytesFault (g : Geometry) (units : Units) (oid : Oid) (root : Root) (fault : PortFault) : Type 0 where
-  ports_own : (IsDamage fault → ⊥) → IsBytesFault g units oid root fault
-  in_tree : IsRootFault g units root fault → IsBytesFault g units oid root fault
-  unlike : fault ≡ record_fault (place_of oid) → IsBytesFault g units oid root fault
-  bad_made : (made : Root) → (IsRootFor g made → IsPlaced made.page → ⊥) → fault ≡ root_fault oid.page made → IsBytesFault g units oid root fault
+-- What a call on the bytes of a root tells, where `tree` is what it tells of a tree: the port's own faults; of its tree; that the record of the version isn't
+-- as the call asks; or that the root that it made is out of its limits.
+pub data IsBytesFaultBy (g : Geometry) (tree : Root → PortFault → Type 0) (oid : Oid) (root : Root) (fault : PortFault) : Type 0 where
+  ports_own : (IsDamage fault → ⊥) → IsBytesFaultBy g tree oid root fault
+  in_tree : tree root fault → IsBytesFaultBy g tree oid root fault
+  unlike : fault ≡ record_fault (place_of oid) → IsBytesFaultBy g tree oid root fault
+  bad_made : (made : Root) → (IsRootFor g made → IsPlaced made.page → ⊥) → fault ≡ root_fault oid.page made → IsBytesFaultBy g tree oid root fault
+
+-- the same of a call that may stop at each page below the root
+abbrev pub IsBytesFault : Geometry → Units → Oid → Root → PortFault → Type 0
+IsBytesFault g units oid root fault = IsBytesFaultBy g (IsRootFault g units) oid root fault
 
 -- the root of a version without a tree
 abbrev pub no_tree : Root
 no_tree = record { height = 0; page = None; size = 0 }
 
 -- What a call on the bytes of a version tells: what a look for it tells; of a small one what a call on no tree tells; of a large one of its tree.
-pub data IsVersionFault (g : Geometry) (units : Units) (image : ℕ → List ℕ) (oid : Oid) (fault : PortFault) : Type 0 where
-  looking : IsFindingFault g image oid fault → IsVersionFault g units image oid fault
-  small : IsBytesFault g units oid no_tree fault → IsVersionFault g units image oid fault
-  large : (root : Root) → IsRootAt image oid root → IsBytesFault g units oid root fault → IsVersionFault g units image oid fault
+pub data IsVersionFaultBy (g : Geometry) (tree : Root → PortFault → Type 0) (image : ℕ → List ℕ) (oid : Oid) (fault : PortFault) : Type 0 where
+  looking : IsFindingFault g image oid fault → IsVersionFaultBy g tree image oid fault
+  small : IsBytesFaultBy g tree oid no_tree fault → IsVersionFaultBy g tree image oid fault
+  large : (root : Root) → IsRootAt image oid root → IsBytesFaultBy g tree oid root fault → IsVersionFaultBy g tree image oid fault
+
+abbrev pub IsVersionFault : Geometry → Units → (ℕ → List ℕ) → Oid → PortFault → Type 0
+IsVersionFault g units image oid fault = IsVersionFaultBy g (IsRootFault g units) image oid fault
+
+-- the same of a read of so many bytes from a position on: of a large version it tells only of a page on the way to one of them
+abbrev pub IsVersionReadFault : Geometry → Units → (ℕ → List ℕ) → Oid → ℕ → ℕ → PortFault → Type 0
+IsVersionReadFault g units image oid pos len fault = IsVersionFaultBy g (λ root. IsRootReadFault g units root pos len) image oid fault
 
 -- What is told of a place that a walk over a file comes to: of the file of its page; or that no record stands there that comes behind the one before.
 pub data IsStepFault (g : Geometry) (image : ℕ → List ℕ) (place : Place) (fault : PortFault) : Type 0 where

@@ -16,7 +16,8 @@ use Rattle.trees.specs.Trees.{Units}
 use Rattle.trees.specs.Damage as trees
 use Rattle.versions.specs.Versions.{place_of}
 use Rattle.versions.specs.Damage as versions
-use Rattle.versions.specs.Damage.{StandsOn, IsBodyFault, IsBytesFault, IsFindingFault, IsVersionFault, no_tree, record_fault}
+use Rattle.versions.specs.Damage.{StandsOn, IsBodyFault, IsBytesFault, IsFindingFault, IsVersionFault, IsVersionReadFault, no_tree, record_fault}
+use Rattle.versions.proofs.Faults.{read_version}
 use Rattle.version_tree.specs.Linked.{head_in}
 use Rattle.version_tree.specs.Links as links
 use Rattle.version_tree.specs.Links.{IsDerivedFault, IsLinkedFault, IsNewerFault, IsOlderFault, IsReadingFault, IsRecordFault, IsStartFault, IsStoredFault, IsWalkFault}
@@ -70,6 +71,9 @@ module _ (g : Geometry) (held : ℕ → Bool) (image : ℕ → List ℕ) (units 
   told_version oid fault own (versions.looking is) = told_finding oid fault is
   told_version oid fault own (versions.small is) = of_bytes oid no_tree fault own (no_tree_told fault) is
   told_version oid fault own (versions.large root at is) = of_bytes oid root fault own (damage.of_tree oid root at) is
+
+  pub told_read : (oid : Oid) (pos len : ℕ) (fault : PortFault) → asked oid → IsVersionReadFault g units image oid pos len fault → IsHere fault
+  told_read oid pos len fault own is = told_version oid fault own (read_version g units image oid pos len fault is)
 
   -- ---- links
 

@@ -76,6 +76,10 @@ impl Disk for MemoryHost {
         self.disk.len() as u64
     }
 
+    fn faults(&self) -> u64 {
+        self.disk_faults
+    }
+
     fn read(&mut self, at: u64, out: &mut [u8]) -> Result<(), Failed>
         requires { at + length out.old ≤ (means self.old).size }
         ensures only { ReadsOnly (means self.old) (means self.new) }

@@ -5,6 +5,7 @@ use Rattle.trees.proofs.Laid.{row_length}
 use Rattle.std.proofs.lemmas.List.{length-take-le}
 use Rattle.ex_base.proofs.Handed.{not_given, cause_here}
 use Rattle.ex_base.proofs.Results.{if_err_handed}
+use Rattle.trees.proofs.ReadFaults.{read_walks}
 use Rattle.trees.proofs.leaves.fill_once.Goals as goal
 
 pub returns-clause-bytes : goal.returns-clause-bytes
@@ -37,7 +38,9 @@ pub returns-in_err-read_row-clause-way : goal.returns-in_err-read_row-clause-way
 returns-in_err-read_row-clause-way g c = not_given c.from_residual.result _ c.in_err-read_row.field-0.0 c.from_residual.ensures.1
 
 pub returns-in_err-read_row-clause-fault : goal.returns-in_err-read_row-clause-fault
-returns-in_err-read_row-clause-fault g c = if_err_handed c.from_residual.result _ c.in_err-read_row.field-0.0 c.from_residual.ensures.1 c.in_err-read_row.ensures.fault
+returns-in_err-read_row-clause-fault g c =
+    if_err_handed c.from_residual.result _ c.in_err-read_row.field-0.0 c.from_residual.ensures.1
+    (λ told. read_walks (g.B.Ground.geometry c.args.blocks.now) (g.B.Ground.unit c.args.blocks.now) 0 0 c.args.run.now _ _ c.in_err-read_row.field-0.0 (c.in_err-read_row.ensures.fault told))
 
 pub returns-in_err-read_row-clause-cause : goal.returns-in_err-read_row-clause-cause
 returns-in_err-read_row-clause-cause g c = cause_here (g.B.Ground.faults c.args.blocks.now) (g.B.Ground.faults c.read_row.new.blocks) c.from_residual.result c.in_err-read_row.field-0.0 c.from_residual.ensures.1 c.in_err-read_row.ensures.cause

@@ -5,12 +5,12 @@ use Rattle.ex_base.specs.Area.{NamesLeaf}
 use Rattle.ex_base.proofs.Results.{if_err_handed}
 use Rattle.trees.specs.Node.{pairs_on}
 use Rattle.trees.specs.Rows.{parts_of, row_size, FitLeaves}
-use Rattle.trees.specs.Damage.{IsSoundWay, IsWalkFault}
+use Rattle.trees.specs.Damage.{IsReadFault, IsSoundWay}
 use Rattle.trees.proofs.Ways.{way_inner, way_kept}
 use Rattle.trees.proofs.SpanLaws.{span_fault, span_way}
 use Rattle.trees.proofs.Reading.{no_part}
-use Rattle.trees.proofs.RowReads.{ReadSoFar, node_read, read_more, read_past, part_put, walk_tree, leaf_read, leaf_way, leaf_walk, bytes_all, way_all, read_none}
-use Rattle.trees.proofs.Blame.{walk_back, walk_below, walk_node}
+use Rattle.trees.proofs.RowReads.{ReadSoFar, node_read, read_more, read_past, part_place, part_put, leaf_read, leaf_way, bytes_all, way_all, read_none}
+use Rattle.trees.proofs.ReadFaults.{read_fault_back, read_index, read_stops_at_leaf, read_stops_at_node, read_stops_below}
 use Rattle.trees.proofs.read.+read.Goals.{read_row-then-n-ne0+in_ok-read_tree, read_row-else-n-ne0}
 use Rattle.ex_base.specs.declared.geometry.Geometry.{Geometry}
 use Rattle.ex_base.proofs.Keeping.{keeps_on}
@@ -22,9 +22,17 @@ use Rattle.trees.proofs.read.+read.Goals as goal
 
 pub read_row-returns-in_err-read_tree-clause-fault : goal.read_row-returns-in_err-read_tree-clause-fault
 read_row-returns-in_err-read_tree-clause-fault g t c =
+    let n_is : c.min-n.result ≡ min (length c.loop-part.out - c.loop-part.done) ((get_or c.args.row.now c.loop-part.part-index no_part).size - c.loop-part.at) =
+    c.min-n.ensures ∙ ap (λ k. min (length c.loop-part.out - c.loop-part.done) k) c.saturating_sub.ensures in
+    let len : length (take (c.loop-part.done + c.min-n.result - c.loop-part.done) (drop c.loop-part.done c.loop-part.out)) ≡ c.min-n.result =
+    length-take-le (c.loop-part.done + c.min-n.result - c.loop-part.done) (drop c.loop-part.done c.loop-part.out) (omega (arith, length-drop c.loop-part.done c.loop-part.out, n_is)) ∙ omega arith in
+    let place = part_place g.B.Ground c.args.blocks.now c.loop-part.blocks c.args.level c.args.least c.args.row.now c.args.pos c.args.out.now c.loop-part.out c.loop-part.part-index c.loop-part.at c.loop-part.done c.min-n.result n_is c.if-n-ne0.true c.loop-part.invariant in
     if_err_handed c.from_residual.result _ c.in_err-read_tree.field-0.0 c.from_residual.ensures.1
-    (λ told. walk_tree (g.B.Ground.geometry c.args.blocks.now) (g.B.Ground.unit c.args.blocks.now) c.args.level c.args.least c.loop-part.part-index c.args.row.now c.in_err-read_tree.field-0.0 c.loop-part-test.true
-    (walk_back g.B.Ground c.args.blocks.now c.loop-part.blocks c.args.level c.args.least (get_or c.args.row.now c.loop-part.part-index no_part ∷ []) c.in_err-read_tree.field-0.0 c.loop-part.invariant.kept c.in_err-read_tree.ensures.fault told))
+    (λ told. read_index (g.B.Ground.geometry c.args.blocks.now) (g.B.Ground.unit c.args.blocks.now) c.args.level c.args.least c.loop-part.part-index c.args.row.now
+    c.loop-part.at (length (take (c.loop-part.done + c.min-n.result - c.loop-part.done) (drop c.loop-part.done c.loop-part.out))) c.args.pos (length c.args.out.now) c.in_err-read_tree.field-0.0 c.loop-part-test.true
+    (omega (arith, place.0)) (omega (arith, place.0, place.1, len))
+    (read_fault_back g.B.Ground c.args.blocks.now c.loop-part.blocks c.args.level c.args.least (get_or c.args.row.now c.loop-part.part-index no_part ∷ [])
+    c.loop-part.at (length (take (c.loop-part.done + c.min-n.result - c.loop-part.done) (drop c.loop-part.done c.loop-part.out))) c.in_err-read_tree.field-0.0 c.loop-part.invariant.kept c.in_err-read_tree.ensures.fault told))
 
 pub read_row-loop-part-preserved : goal.read_row-loop-part-preserved
 read_row-loop-part-preserved g t c =
@@ -75,13 +83,12 @@ pub read_tree-returns-clause-fault : goal.read_tree-returns-clause-fault
 read_tree-returns-clause-fault g t c =
     let b = g.B.Ground in
     IfErr-weaker c.read_row.result _ _ (λ fault read told.
-    let node = c.in_ok-span.ensures.node told in
-    walk_below (b.geometry c.args.blocks.now) (b.unit c.args.blocks.now) c.args.level c.args.least 0 (c.args.tree ∷ []) (parts_of 0 (pairs_on (b.unit c.args.blocks.now c.args.tree.page.0))) fault c.if-level-eq0.false (omega arith) node.area node.row node.filled
+    read_stops_below (b.geometry c.args.blocks.now) (b.unit c.args.blocks.now) c.args.level c.args.least c.args.tree c.args.pos (length c.args.out.now) fault c.if-level-eq0.false c.requires.range (c.in_ok-span.ensures.node told)
     (span_fault (parts_of 0 (pairs_on (b.unit c.args.blocks.now c.args.tree.page.0))) c.in_ok-span.span.row.items c.args.pos (length c.args.out.now) c.in_ok-span.span.inside (c.in_ok-span.ensures.span told)
     (b.geometry c.args.blocks.now) (b.unit c.args.blocks.now) (c.args.level - 1) (b.geometry c.args.blocks.now).fan fault
-    (walk_back b c.args.blocks.now c.span_of.new.blocks (c.args.level - 1) (b.geometry c.args.blocks.now).fan c.in_ok-span.span.row.items fault c.in_ok-span.ensures.kept
-    (λ later. subst (λ fan. IsWalkFault (b.geometry c.span_of.new.blocks) (b.unit c.span_of.new.blocks) (c.args.level - 1) fan c.in_ok-span.span.row.items fault) (ap (λ geo. geo.fan) (c.geometry-fan.ensures ∙ b.leads_geometry c.args.blocks.now c.span_of.new.blocks c.in_ok-span.ensures.kept.leads))
-    (subst (λ r. IsWalkFault (b.geometry c.span_of.new.blocks) (b.unit c.span_of.new.blocks) (c.args.level - 1) c.geometry-fan.result.fan r fault) c.deref.ensures.value (read later))) told))) c.read_row.ensures.fault
+    (read_fault_back b c.args.blocks.now c.span_of.new.blocks (c.args.level - 1) (b.geometry c.args.blocks.now).fan c.in_ok-span.span.row.items c.in_ok-span.span.inside (length c.args.out.now) fault c.in_ok-span.ensures.kept
+    (λ later. subst (λ fan. IsReadFault (b.geometry c.span_of.new.blocks) (b.unit c.span_of.new.blocks) (c.args.level - 1) fan c.in_ok-span.span.row.items c.in_ok-span.span.inside (length c.args.out.now) fault) (ap (λ geo. geo.fan) (c.geometry-fan.ensures ∙ b.leads_geometry c.args.blocks.now c.span_of.new.blocks c.in_ok-span.ensures.kept.leads))
+    (subst (λ r. IsReadFault (b.geometry c.span_of.new.blocks) (b.unit c.span_of.new.blocks) (c.args.level - 1) c.geometry-fan.result.fan r c.in_ok-span.span.inside (length c.args.out.now) fault) c.deref.ensures.value (read later))) told))) c.read_row.ensures.fault
 
 pub read_row-read_tree-requires : goal.read_row-read_tree-requires
 read_row-read_tree-requires g t c κs within =
@@ -135,7 +142,9 @@ pub read_tree-returns-in_err-span-clause-cause : goal.read_tree-returns-in_err-s
 read_tree-returns-in_err-span-clause-cause g t c = cause_here (g.B.Ground.faults c.args.blocks.now) (g.B.Ground.faults c.span_of.new.blocks) c.from_residual.result c.in_err-span.field-0.0 c.from_residual.ensures.1 c.in_err-span.ensures.cause
 
 pub read_tree-returns-in_err-span-clause-fault : goal.read_tree-returns-in_err-span-clause-fault
-read_tree-returns-in_err-span-clause-fault g t c = if_err_handed c.from_residual.result _ c.in_err-span.field-0.0 c.from_residual.ensures.1 (λ told. walk_node (g.B.Ground.geometry c.args.blocks.now) (g.B.Ground.unit c.args.blocks.now) c.args.level c.args.least 0 (c.args.tree ∷ []) c.in_err-span.field-0.0 c.if-level-eq0.false (omega arith) (c.in_err-span.ensures.fault told))
+read_tree-returns-in_err-span-clause-fault g t c =
+    if_err_handed c.from_residual.result _ c.in_err-span.field-0.0 c.from_residual.ensures.1
+    (λ told. read_stops_at_node (g.B.Ground.geometry c.args.blocks.now) (g.B.Ground.unit c.args.blocks.now) c.args.level c.args.least c.args.tree c.args.pos (length c.args.out.now) c.in_err-span.field-0.0 c.if-level-eq0.false c.requires.some c.requires.range (c.in_err-span.ensures.fault told))
 
 pub read_tree-returns-clause-kept : goal.read_tree-returns-clause-kept
 read_tree-returns-clause-kept g t c = keeps_on g.B.Ground c.args.blocks.now c.span_of.new.blocks c.read_row.new.blocks c.in_ok-span.ensures.kept c.read_row.ensures.kept
@@ -150,7 +159,8 @@ pub read_tree-returns-then-level-eq0-clause-way : goal.read_tree-returns-then-le
 read_tree-returns-then-level-eq0-clause-way g t c = on_ok_weaker c.read_leaf.result (λ named told byte low high. leaf_way (g.B.Ground.geometry c.args.blocks.now) (g.B.Ground.unit c.args.blocks.now) c.args.level c.args.least c.args.tree byte byte c.if-level-eq0.true named) c.read_leaf.ensures.named
 
 pub read_tree-returns-then-level-eq0-clause-fault : goal.read_tree-returns-then-level-eq0-clause-fault
-read_tree-returns-then-level-eq0-clause-fault g t c = IfErr-weaker c.read_leaf.result _ _ (λ fault h told. leaf_walk (g.B.Ground.geometry c.args.blocks.now) (g.B.Ground.unit c.args.blocks.now) c.args.level c.args.least c.args.tree fault c.if-level-eq0.true h) c.read_leaf.ensures.fault
+read_tree-returns-then-level-eq0-clause-fault g t c =
+    IfErr-weaker c.read_leaf.result _ _ (λ fault h told. read_stops_at_leaf (g.B.Ground.geometry c.args.blocks.now) (g.B.Ground.unit c.args.blocks.now) c.args.level c.args.least c.args.tree c.args.pos (length c.args.out.now) fault c.if-level-eq0.true c.requires.some c.requires.range h) c.read_leaf.ensures.fault
 
 pub read_tree-returns-then-level-eq0-clause-kept : goal.read_tree-returns-then-level-eq0-clause-kept
 read_tree-returns-then-level-eq0-clause-kept g t c = c.read_leaf.ensures.kept

@@ -2,7 +2,7 @@ use Rattle.std.proofs.Common.{◌≡◌, ◌≤◌, ◌+◌, ℕ, length, take, 
 use Rattle.std.proofs.lemmas.List.{length-take}
 use Rattle.sha2.specs.Hashers.{Holds256}
 use Rattle.versions.specs.Damage.{IsFoundAnd, IsReadThrough}
-use Rattle.versions.proofs.Faults.{version_kept}
+use Rattle.versions.proofs.Faults.{read_kept, read_of_more}
 use Rattle.versions.proofs.Standing.{kept_holds}
 use Rattle.versions.proofs.Fed.{FedTo, fed_more}
 use Rattle.ex_base.proofs.Keeping.{keeps_on, cause_since}
@@ -15,7 +15,10 @@ returns-in-Err-clause-sound g c = λ damage told index head content bytes has en
     (omega (arith, enough, c.pieces.invariant.inside, c.pieces-test.true, c.piece_len-len.ensures, length-take {A = ℕ}))
 
 pub returns-in-Err-clause-fault : goal.returns-in-Err-clause-fault
-returns-in-Err-clause-fault g c = λ told. version_kept g.V.Ground c.args.volume.now c.pieces.volume c.pieces.invariant.kept c.args.oid.now c.in-Err.fault c.in-Err.ensures.fault told
+returns-in-Err-clause-fault g c = λ told.
+    read_of_more (g.V.Ground.geometry c.args.volume.now) (g.V.Ground.unit c.args.volume.now) (g.V.Ground.image c.args.volume.now) c.args.oid.now c.pieces.at (length (take c.piece_len-len.result c.pieces.buffer)) c.args.size c.in-Err.fault
+    (omega (arith, c.pieces.invariant.inside, c.pieces-test.true, c.piece_len-len.ensures, length-take {A = ℕ}))
+    (read_kept g.V.Ground c.args.volume.now c.pieces.volume c.pieces.invariant.kept c.args.oid.now c.pieces.at (length (take c.piece_len-len.result c.pieces.buffer)) c.in-Err.fault c.in-Err.ensures.fault told)
 
 pub pieces-preserved : goal.pieces-preserved
 pieces-preserved g c =

@@ -1,5 +1,5 @@
 use Rattle.std.proofs.lemmas.Bool.{false≢true}
-use Rattle.std.proofs.Common.{◌≡◌, ◌+◌, ◌≤◌, length, true, false, ap, ◌∙◌, arith, subst, sym}
+use Rattle.std.proofs.Common.{ℕ, ◌≡◌, ◌+◌, ◌≤◌, length, true, false, ap, ◌∙◌, arith, subst, sym}
 use Rattle.std.proofs.lemmas.Result.{IfErr-weaker, on_ok_weaker}
 use Rattle.ex_base.specs.Bytes.{bytes_at}
 use Rattle.ex_base.proofs.Options.{at_some}
@@ -14,6 +14,7 @@ use Rattle.versions.proofs.Standing.{version_readable, version_whole, kept_holds
 use Rattle.ex_base.proofs.Handed.{not_given, cause_here, cause_of}
 use Rattle.ex_base.proofs.Keeping.{keeps_on}
 use Rattle.ex_base.specs.declared.geometry.Geometry.{Geometry}
+use Rattle.trees.specs.Damage.{IsRootReadFault}
 use Rattle.trees.specs.Roots.{IsRootFor}
 use Rattle.versions.proofs.finding.read_at.Goals as goal
 
@@ -68,9 +69,11 @@ returns-in_err-check-clause-fault g c = if_err_handed c.from_residual-in_err-che
 
 pub returns-in-Some-clause-fault : goal.returns-in-Some-clause-fault
 returns-in-Some-clause-fault g c = IfErr-weaker c.read.result _ _ (λ fault h told.
+    let len : length c.find_reading.new.out ≡ length c.args.out.now = c.in_ok-told.ensures.len in
     let at = at_some c.in_ok-told.told c.in_ok-found.found _ c.in_ok-found.ensures.some c.in_ok-told.ensures.reads told in
     large c.in-Some.root (root_at (g.V.Ground.geometry c.args.volume.now) (g.V.Ground.image c.args.volume.now) c.args.oid.now c.in_ok-found.found c.in-Some.root at c.in-Some.is)
-    (in_tree (tree_kept g.V.Ground c.args.volume.now c.find_reading.new.volume c.find_reading.ensures.kept c.in-Some.root fault h told))) c.read.ensures.fault
+    (in_tree (tree_kept g.V.Ground c.args.volume.now c.find_reading.new.volume c.find_reading.ensures.kept c.in-Some.root c.args.pos (length c.args.out.now) fault
+    (λ later. subst (λ (n : ℕ). IsRootReadFault (g.V.Ground.geometry c.find_reading.new.volume) (g.V.Ground.unit c.find_reading.new.volume) c.in-Some.root c.args.pos n fault) len (h later)) told))) c.read.ensures.fault
 
 -- ---- what was read
 

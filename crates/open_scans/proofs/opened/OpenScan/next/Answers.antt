@@ -1,9 +1,6 @@
-use Rattle.std.proofs.Common.{◌∙◌, Option, ap, subst}
-use Rattle.std.specs.Prelude.{IfSome}
-use Rattle.ex_base.specs.declared.names.Root.{Root}
-use Rattle.trees.specs.Damage.{IsRootFault}
+use Rattle.std.proofs.Common.{◌∙◌, ap, subst}
 use Rattle.scans.specs.Scans.{Position}
-use Rattle.open_scans.specs.OpenScans.{HasSoundRest, OpenRow, position_of}
+use Rattle.open_scans.specs.OpenScans.{HasSoundRest, IsNextFault, OpenRow, position_of}
 use Rattle.open_scans.proofs.opened.OpenScan.next.Goals as goal
 use Rattle.open_scans.proofs.opened.OpenScan.next.Goals.{in-Ok, in-Err}
 
@@ -17,7 +14,7 @@ pub returns-clause-fault : goal.returns-clause-fault
 returns-clause-fault g c = elim c.match-copy_next.branch [
   | in-Ok w ↦ rw w.result-is tt
   | in-Err w ↦ rw w.result-is (λ told.
-      subst (λ (o : Option Root). IfSome o (λ root. IsRootFault (g.B.Ground.geometry c.args.blocks.now) (g.B.Ground.unit c.args.blocks.now) root w.in-Err.fault)) (ap (λ (r : OpenRow). r.scan.root) c.self.view_is) (w.in-Err.ensures.fault told))
+      subst (λ (place : Position). IsNextFault (g.B.Ground.geometry c.args.blocks.now) (g.B.Ground.unit c.args.blocks.now) c.args.n place w.in-Err.fault) (ap (λ (r : OpenRow). position_of r.scan) c.self.view_is) (w.in-Err.ensures.fault told))
 ]
 
 pub returns-clause-way : goal.returns-clause-way

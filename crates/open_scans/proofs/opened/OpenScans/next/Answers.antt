@@ -1,11 +1,9 @@
-use Rattle.std.proofs.Common.{◌≡◌, ◌∙◌, ℕ, List, Option, Some, None, ap, subst}
-use Rattle.std.specs.Prelude.{IfSome, slice_get, slice_set}
+use Rattle.std.proofs.Common.{◌≡◌, ◌∙◌, ℕ, List, ap, subst}
+use Rattle.std.specs.Prelude.{slice_get, slice_set}
 use Rattle.std.proofs.lemmas.Result.{IfErr-weaker, IfOk-weaker, on_ok_weaker}
 use Rattle.ex_base.specs.Bytes.{bytes_at}
-use Rattle.ex_base.specs.declared.names.Root.{Root}
 use Rattle.scans.specs.Scans.{Opened}
-use Rattle.trees.specs.Damage.{IsRootFault, IsWhole}
-use Rattle.open_scans.specs.OpenScans.{HasSoundRest, OpenRow, given_len, position_of, row_after}
+use Rattle.open_scans.specs.OpenScans.{HasSoundRest, IsNextFault, OpenRow, given_len, position_of, row_after}
 use Rattle.open_scans.proofs.Rows.{lent_there}
 use Rattle.open_scans.proofs.opened.OpenScans.next.Goals as goal
 
@@ -34,8 +32,8 @@ returns-clause-held g c = λ row at none.
 
 pub returns-clause-fault : goal.returns-clause-fault
 returns-clause-fault g c = IfErr-weaker c.next.result _ _ (λ fault told tells row at.
-    subst (λ (o : Option Root). IfSome o (λ root. IsRootFault (g.B.Ground.geometry c.args.blocks.now) (g.B.Ground.unit c.args.blocks.now) root fault))
-    (ap (λ (r : OpenRow). r.scan.root) (lent_there c.self.inside.items.items c.args.self.now c.args.index c.index_mut-open.result.now row c.self.view_is c.requires.there c.index_mut-open.ensures.value at)) (told tells)) c.next.ensures.fault
+    subst (λ (r : OpenRow). IsNextFault (g.B.Ground.geometry c.args.blocks.now) (g.B.Ground.unit c.args.blocks.now) c.args.n (position_of r.scan) fault)
+    (lent_there c.self.inside.items.items c.args.self.now c.args.index c.index_mut-open.result.now row c.self.view_is c.requires.there c.index_mut-open.ensures.value at) (told tells)) c.next.ensures.fault
 
 pub returns-clause-way : goal.returns-clause-way
 returns-clause-way g c = on_ok_weaker c.next.result (λ way told row at.

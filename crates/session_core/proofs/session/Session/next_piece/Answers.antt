@@ -56,7 +56,7 @@ returns-clause-damage g c =
     let row = row_there c.args.self.now.scans c.args.index c.requires.there in
     let here : slice_get c.self.inside.scans c.args.index ≡ Some row.row = ap (λ (t : SessionState). slice_get t.scans c.args.index) c.self.view_is ∙ row.at in
     let left = frames_to g.D.World.outside c.next.new.blocks.disk.now _ (search rules fits 200) (frames_left c.next.ensures.kept.leads) in
-    scan_told _ _ _ c.args.index c.next.result c.or_stop.result c.or_stop.ensures over left.only.nothing.disk row.row row.at
+    scan_told _ _ _ c.args.index c.args.len c.next.result c.or_stop.result c.or_stop.ensures over left.only.nothing.disk row.row row.at
     (IfErr-weaker c.next.result _ _ (λ fault is told. is told row.row here) c.next.ensures.fault) (λ none. (c.next.ensures.held row.row here none).1)
 
 pub group_at-group-requires : goal.group_at-group-requires

@@ -5,6 +5,7 @@ use Rattle.session_core.specs.contracts.session.Session as session
 use Rattle.session_core.proofs.Finding.{frames_left, frames_to, no_damage, only_reads, over_session, port_shows, read_session, told_err, told_on_ok}
 use Rattle.session_core.proofs.Damage.{tree_told}
 use Rattle.session_core.proofs.Sessions.{main_read, seen}
+use Rattle.trees.proofs.ReadFaults.{root_reads_walk}
 use Rattle.trees.specs.Roots.{IsRootFor}
 use Rattle.session_core.specs.Sessions.{SessionState}
 use Rattle.std.specs.Prelude.{length}
@@ -35,7 +36,7 @@ returns-clause-sound g c =
 pub returns-clause-damage : goal.returns-clause-damage
 returns-clause-damage g c =
     let over = over_session c.read.ensures.kept (g.D.World.outside c.args.disk.now) c.self.view_is c.self.invariant refl refl refl refl (λ h. h) in
-    tree_told _ _ c.args.root.now c.read.result c.or_stop.result c.or_stop.ensures over c.read.ensures.fault
+    tree_told _ _ c.args.root.now c.read.result c.or_stop.result c.or_stop.ensures over (root_reads_walk _ _ c.args.root.now c.args.pos (length c.args.out.now) c.read.result c.read.ensures.fault)
 
 pub read-requires-clause-ready : goal.read-requires-clause-ready
 read-requires-clause-ready g c = main_read (session.the_view c.self.inside) c.args.self.now (g.D.World.outside c.args.disk.now).size c.self.view_is c.self.invariant c.requires.room
