@@ -1,5 +1,5 @@
 //! Records are added to the log, and it is closed.
-ghost use Rattle.std.specs.Prelude.{◌≡◌, ◌↔◌, ◌+◌, ◌<◌, ◌≤◌, ◌^◌, ◌++◌, [], ◌∷◌, ℕ, List, length, Some, IsTrue, IfOk, IsOk, OnOk, OnErr};
+ghost use Rattle.std.specs.Prelude.{◌≡◌, ◌↔◌, ◌+◌, ◌<◌, ◌≤◌, ◌^◌, ◌++◌, [], ◌∷◌, ℕ, List, length, vec_capacity, Some, IsTrue, IfOk, IsOk, OnOk, OnErr};
 ghost use Rattle.ex_base.specs.declared.geometry.Geometry.{Geometry};
 ghost use Rattle.ex_base.specs.Sizes.{volume_bytes};
 ghost use Rattle.ex_base.specs.Area.{log_size};
@@ -51,7 +51,22 @@ fn write_record<D: Disk>(disk: &mut D, gate: u64, bytes: &[u8]) -> Result<(), Fa
     write_settled(disk, gate, &[OPEN])
 }
 
-/// The log's end and the number of its records, and a buffer for the next record.
+// Makes a buffer at least so long, in the memory that it has.
+fn lengthen(buffer: &mut Vec<u8>, len: usize)
+    requires { len ≤ vec_capacity buffer.old }
+    ensures long { len ≤ length buffer.new.items }
+    ensures capacity { vec_capacity buffer.old ≤ vec_capacity buffer.new }
+{
+    if buffer.len() < len {
+        match buffer.resize(len, 0) {
+            Ok(()) => {}
+            Err(_) => unreachable!(),
+        }
+    }
+}
+
+/// The log's end and the number of its records, and a buffer for the next record. The buffer has memory for the whole log from the start, and is as long
+/// as the longest record so far.
 #[derive(Drop)]
 pub struct OpLog {
     geometry: Geometry,
@@ -61,7 +76,7 @@ pub struct OpLog {
 }
 
 impl Model for OpLog {
-    ghost use Rattle.std.specs.Prelude.{◌≡◌, ◌<◌, ◌≤◌, length};
+    ghost use Rattle.std.specs.Prelude.{◌<◌, ◌≤◌, vec_capacity};
     ghost use Rattle.ex_base.specs.Area.{log_size};
     ghost use Rattle.op_log.specs.State.{LogState};
 
@@ -69,7 +84,7 @@ impl Model for OpLog {
 
     ghost view = { λ a. record { geometry = a.geometry; end = a.end; count = a.count } };
 
-    ghost invariant = { λ a. (length a.buffer.items ≡ log_size a.geometry) × (a.end < log_size a.geometry) × (a.count ≤ a.end) };
+    ghost invariant = { λ a. (log_size a.geometry ≤ vec_capacity a.buffer) × (a.end < log_size a.geometry) × (a.count ≤ a.end) };
 }
 
 impl OpLog {
@@ -78,15 +93,15 @@ impl OpLog {
     ghost use Rattle.op_log.specs.State.{Prolongs};
     ghost use Rattle.op_log.specs.declared.record.LogRecord.{LogRecord};
 
-    /// A log without a record, with a buffer of the log's whole size.
+    /// A log without a record, with the memory for a record of the log's whole size.
     pub fn make(alloc: Global, geometry: &Geometry) -> Result<OpLog, AllocError>
         ensures { IfOk result
             (λ log. log ≡ record { geometry = geometry.now; end = 0; count = 0 }) }
     {
-        let buffer = vec![in alloc; 0u8; LOG_PAGES as usize * geometry.page_size as usize]?;
+        let size = LOG_PAGES as usize * geometry.page_size as usize;
         Ok(OpLog {
             geometry: *geometry,
-            buffer,
+            buffer: Vec::with_capacity(alloc, size)?,
             end: 0,
             count: 0,
         })
@@ -163,6 +178,7 @@ impl OpLog {
     {
         let len = length_of(item);
         let gate = self.geometry.page_size as u64 + self.end as u64;
+        lengthen(&mut self.buffer, len);
         encode(&mut self.buffer, item, len);
         write_record(disk, gate, &self.buffer[..len])?;
         self.end += len as u32;

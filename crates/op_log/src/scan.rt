@@ -1,5 +1,5 @@
 //! The log is read.
-ghost use Rattle.std.specs.Prelude.{◌≡◌, ◌<◌, ◌≤◌, ℕ, List, length, Some, Err, IfOk, OnOk};
+ghost use Rattle.std.specs.Prelude.{◌≡◌, ◌↔◌, ◌<◌, ◌≤◌, ℕ, List, [], length, Some, Err, IfOk, OnOk, OnErr, IsFalse};
 ghost use Rattle.ex_base.specs.Sizes.{volume_bytes};
 ghost use Rattle.ex_base.specs.Area.{log_at, log_size};
 ghost use Rattle.disk_model.specs.Calls.{MakesCalls, MakesAtMost};
@@ -11,7 +11,7 @@ ghost use Rattle.op_log.specs.Decoding.{IsBadAt};
 
 use crate::decoding::decode;
 use crate::found::LogRecords;
-use crate::layout::OPEN;
+use crate::layout::{CLOSED, OPEN};
 use crate::length::length_of;
 use crate::valid::follows;
 use disk_model::{Disk, Failed};
@@ -79,9 +79,24 @@ fn empty_buffer(alloc: Global, geometry: &Geometry) -> Result<Vec<u8>, AllocErro
     vec![in alloc; 0u8; LOG_PAGES as usize * geometry.page_size as usize]
 }
 
-/// The records of the log, read from the disk by one call. `Bad` comes exactly where an open gate at the end of the records before it is followed by no record;
-/// a log has a list of records or a bad offset, and never both.
-pub fn scan_log<D: Disk>(
+// Whether the log's first gate is open: no record counts behind a closed one. Its one byte is read.
+fn is_open<D: Disk>(disk: &mut D, geometry: &Geometry) -> Result<bool, Failed>
+    requires { volume_bytes geometry.now ≤ (D.outside disk.old).size }
+    ensures only { ReadsOnly (D.outside disk.old) (D.outside disk.new) }
+    ensures at_most_once { MakesAtMost 1 (D.outside disk.old) (D.outside disk.new) }
+    ensures once { OnOk result (MakesCalls 1 (D.outside disk.old) (D.outside disk.new)) }
+    ensures closed { IfOk result (λ is_open. (d : List ℕ) → (D.outside disk.old).disk ≡ Some d
+        → (IsFalse is_open ↔ SaysLog geometry.now [] d)) }
+    ensures cause { OnErr result (Rose (D.outside disk.old).disk_faults
+        (D.outside disk.new).disk_faults) }
+{
+    let mut gate = [CLOSED];
+    disk.read(geometry.page_size as u64, &mut gate)?;
+    Ok(gate[0] == OPEN)
+}
+
+// The records of the log, which is read whole by one call of the disk.
+fn read_log<D: Disk>(
     alloc: Global,
     disk: &mut D,
     geometry: &Geometry,
@@ -103,4 +118,32 @@ pub fn scan_log<D: Disk>(
     let mut log = empty_buffer(alloc, geometry)?;
     disk.read(geometry.page_size as u64, &mut log)?;
     read_records(alloc, geometry, &log)
+}
+
+/// The records of the log. Where its first gate is closed, that byte alone is read, and else the whole log behind it. `Bad` comes exactly where an open gate
+/// at the end of the records before it is followed by no record; a log has a list of records or a bad offset, and never both.
+pub fn scan_log<D: Disk>(
+    alloc: Global,
+    disk: &mut D,
+    geometry: &Geometry,
+) -> Result<LogRecords, LogFault>
+    requires { volume_bytes geometry.now ≤ (D.outside disk.old).size }
+    ensures only { ReadsOnly (D.outside disk.old) (D.outside disk.new) }
+    ensures at_most_twice { MakesAtMost 2 (D.outside disk.old) (D.outside disk.new) }
+    ensures once { IfOk result (λ found. (d : List ℕ) → (D.outside disk.old).disk ≡ Some d
+        → found ≡ [] → MakesCalls 1 (D.outside disk.old) (D.outside disk.new)) }
+    ensures each { IfOk result (AllByRecursion (IsLogRecord geometry.now)) }
+    ensures inside { IfOk result (λ found. log_end found < log_size geometry.now) }
+    ensures records { IfOk result (λ found. (d : List ℕ) → (D.outside disk.old).disk ≡ Some d
+        → SaysLog geometry.now found d) }
+    ensures bad { (at : ℕ) → result ≡ Err (LogFault.Bad at) → (d : List ℕ)
+        → (D.outside disk.old).disk ≡ Some d
+        → IsBadAt geometry.now (log_at geometry.now d) at }
+    ensures disk { result ≡ Err LogFault.Disk
+        → Rose (D.outside disk.old).disk_faults (D.outside disk.new).disk_faults }
+{
+    if !is_open(disk, geometry)? {
+        return Ok(LogRecords::make(alloc));
+    }
+    read_log(alloc, disk, geometry)
 }

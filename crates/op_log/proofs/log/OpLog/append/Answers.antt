@@ -22,10 +22,10 @@ adding g c rs prolongs =
     let s = c.args.self.now in
     let r = c.args.item.now in
     let len : c.length_of-len.result ≡ record_len r = omega (arith, c.length_of-len.ensures, c.requires.fits, most_page s.geometry) in
-    let out : length c.encode.new.out ≡ c.self.inside.buffer.len = omega (arith, c.encode.auto.out, c.deref_mut.ensures.len) in
+    let out : length c.encode.new.out ≡ c.lengthen.new.buffer.len = omega (arith, c.encode.auto.out, c.deref_mut.ensures.len) in
     record {
       gate_is = ap (λ (t : LogState). t.geometry.page_size + t.end) c.self.view_is ∙ ap (λ (e : ℕ). s.geometry.page_size + e) prolongs.at_end;
-      bytes_are = spelled r c.length_of-len.result c.encode.result c.self.inside.buffer.len c.deref_mut.result.now c.encode.new.out (drop (length c.encode.new.out) c.self.inside.buffer.items) c.deref.result.now
+      bytes_are = spelled r c.length_of-len.result c.encode.result c.lengthen.new.buffer.len c.deref_mut.result.now c.encode.new.out (drop (length c.encode.new.out) c.lengthen.new.buffer.items) c.deref.result.now
           len c.encode.ensures.end out c.deref.ensures.value c.encode.ensures.puts;
       fits = omega (arith, c.requires.fits, prolongs.at_end);
       is_record = c.requires.record;
