@@ -1,7 +1,8 @@
 -- What stands in a buffer after more is taken to its end.
-use Rattle.std.proofs.Common.{◌≡◌, ℕ, ◌+◌, ◌-◌, ◌≤◌, List, [], ◌++◌, zero, suc, length, take, drop, Option, Some, ap, sym, ◌∙◌, arith, refl, append_assoc, length-drop, min}
+use Rattle.std.proofs.Common.{◌≡◌, ℕ, ◌+◌, ◌-◌, ◌≤◌, ◌<◌, inl, inr, List, [], ◌++◌, zero, suc, length, take, drop, Option, Some, ap, sym, ◌∙◌, arith, refl, append_assoc, length-drop, min}
+use Rattle.std.proofs.lemmas.Bool.{cases_lt}
 use Rattle.std.proofs.Math.Seq.{take-add}
-use Rattle.std.proofs.lemmas.List.{drop-take, drop-drop, take-append-drop, length-take}
+use Rattle.std.proofs.lemmas.List.{drop_all, drop-take, drop-drop, take_all, take-append-drop, length-take}
 use Rattle.script_lines.specs.Remains.{between, SameScript, AllHere, Draws, IsFront}
 
 -- what stood before the end still stands
@@ -25,6 +26,10 @@ grown old new was s e n h same more =
 pub longer_front : (old new : List ℕ) (s e n : ℕ) → s ≤ e → take e new ≡ take e old → IsFront (between old s e) (between new s (e + n))
 longer_front old new s e n h same = (take n (drop e new), grown old new (drop e new) s e n h same refl)
 
+none_of : (k : ℕ) → take {A = ℕ} k [] ≡ []
+none_of zero = refl
+none_of (suc k) = refl
+
 -- n bytes of the source stand behind what was buffered
 abbrev pub TakesPiece : (e n : ℕ) (new : List ℕ) (left is : Option (List ℕ)) → Type 0
 TakesPiece e n new left is = (was : List ℕ) → left ≡ Some was → (n ≤ length was) × (take n (drop e new) ≡ take n was) × (is ≡ Some (drop n was))
@@ -45,13 +50,9 @@ module _ (old new : List ℕ) (left is : Option (List ℕ)) (s e n : ℕ) (h : s
   pub all_here : n ≡ 0 → ((was : List ℕ) → left ≡ Some was → was ≡ []) → AllHere (between old s e) left (between new s (e + n))
   all_here nothing none = record {
     each = λ script r.
-        r.whole ∙ ap (λ (l : List ℕ). between old s e ++ l) (none r.behind r.told ∙ sym (ap (take n) (none r.behind r.told) ∙ no_front n))
+        r.whole ∙ ap (λ (l : List ℕ). between old s e ++ l) (none r.behind r.told ∙ sym (ap (take n) (none r.behind r.told) ∙ none_of n))
         ∙ sym (grown old new r.behind s e n h same (more r.behind r.told).1);
   }
-    where
-      no_front : (k : ℕ) → take {A = ℕ} k [] ≡ []
-      no_front zero = refl
-      no_front (suc k) = refl
 
 -- nothing came
 pub same_held : (old new : List ℕ) (s e n : ℕ) → s ≤ e → take e new ≡ take e old → n ≡ 0 → between new s (e + n) ≡ between old s e
@@ -76,3 +77,29 @@ same_script_trans a b c x y z one two = record { each = λ script r. two.each sc
 
 pub length_between : (bytes : List ℕ) (s e : ℕ) → e ≤ length bytes → length (between bytes s e) ≡ e - s
 length_between bytes s e h = length-take (e - s) (drop s bytes) ∙ (let fits : min (e - s) (length (drop s bytes)) ≡ e - s = omega (arith, length-drop s bytes) in fits)
+
+-- what is shown of a buffer ends where the buffer ends
+pub between_inside : (bytes : List ℕ) (from to start end : ℕ) → from ≤ to
+    → (to ≤ length bytes → end ≡ to) → (length bytes < to → end ≡ length bytes) → (from ≤ end → start ≡ from) → (end < from → start ≡ end)
+    → between bytes start end ≡ between bytes from to
+between_inside bytes from to start end ordered whole cut inside outside = elim (cases_lt (length bytes) to) [
+  | inl short ↦
+      let ends : end ≡ length bytes = cut short in
+      elim (cases_lt end from) [
+        | inl none ↦
+            let begins : start ≡ end = outside none in
+            let nothing : end - start ≡ 0 = omega (arith, begins) in
+            ap (λ (n : ℕ). take n (drop start bytes)) nothing
+            ∙ sym (ap (take (to - from)) (drop_all from bytes (omega (arith, none, ends))) ∙ none_of (to - from))
+        | inr some ↦
+            let begins : start ≡ from = inside some in
+            let size : length (drop from bytes) ≡ length bytes - from = length-drop from bytes in
+            ap (λ (n : ℕ). take (end - n) (drop n bytes)) begins
+            ∙ take_all (end - from) (drop from bytes) (omega (arith, size, ends))
+            ∙ sym (take_all (to - from) (drop from bytes) (omega (arith, size, short)))
+      ]
+  | inr there ↦
+      let ends : end ≡ to = whole there in
+      let begins : start ≡ from = inside (omega (arith, ends, ordered)) in
+      ap (λ (n : ℕ). between bytes n end) begins ∙ ap (λ (n : ℕ). between bytes from n) ends
+]

@@ -1,15 +1,24 @@
 //! The lines of a script.
 
-ghost use Rattle.std.specs.Prelude.{◌≡◌, ◌<◌, ◌+◌, [], List, ℕ, None, IfOk, IfSome, OnOk, OnErr};
+ghost use Rattle.std.specs.Prelude.{◌≡◌, ◌<◌, ◌≤◌, ◌+◌, [], List, ℕ, None, IfOk, IfSome, OnOk, OnErr};
 ghost use Rattle.std.specs.Borrow.{sem};
 ghost use Rattle.disk_model.specs.Outside.{Rose, SourceOnly};
-ghost use Rattle.script_lines.specs.Remains.{Draws, IfTold, Moves};
+ghost use Rattle.script_lines.specs.Remains.{between, Draws, IfTold, Moves};
 ghost use Rattle.script_lines.specs.Taking.{IsCut, Takes};
 
 use crate::shown::{Kind, LineFault, LineRef, Shown};
 use crate::window::Window;
 use disk_model::Source;
 use std::alloc::{AllocError, Global};
+
+/// The bytes of a buffer from one place up to another, as far as it has them.
+fn part(buffer: &[u8], from: usize, to: usize) -> &[u8]
+    requires { from ≤ to }
+    ensures { result.now ≡ between buffer.now from to }
+{
+    let end = to.min(buffer.len());
+    &buffer[from.min(end)..end]
+}
 
 /// A reader of the lines of a script. Its source is handed to each call.
 ///
@@ -67,7 +76,7 @@ impl Lines {
         ensures { line_lent result ≡ current self.now }
     {
         match self.shown.kind {
-            Kind::Whole => LineRef::Line(&self.window.buffer[self.shown.from..self.shown.to]),
+            Kind::Whole => LineRef::Line(part(&self.window.buffer, self.shown.from, self.shown.to)),
             Kind::Long => LineRef::Long,
             Kind::End => LineRef::End,
         }

@@ -1,6 +1,6 @@
 //! A buffer that takes a script from its source in large pieces.
 
-ghost use Rattle.std.specs.Prelude.{◌≡◌, ◌≤◌, ◌<◌, ◌+◌, ◌-◌, ◌++◌, [], List, ℕ, Some, None, true, false, take, drop, length, vec_len, IfOk, IfErr, IfSome, OnOk, OnErr, MatchOption, slice_index};
+ghost use Rattle.std.specs.Prelude.{◌≡◌, ◌≤◌, ◌<◌, ◌+◌, ◌-◌, ◌++◌, [], List, ℕ, Some, None, true, false, take, drop, length, vec_capacity, vec_len, IfOk, IfErr, IfSome, OnOk, OnErr, MatchOption, slice_index};
 ghost use Rattle.disk_model.specs.Outside.{Rose, SourceOnly};
 ghost use Rattle.script_lines.specs.Lines.{line_feed, without_return};
 ghost use Rattle.script_lines.specs.Remains.{ClearTo, Draws, SameScript, AllHere, IsFront, IfTold, Moves};
@@ -18,7 +18,7 @@ pub const LINE_MOST: usize = 1_048_576;
 /// How many bytes are asked of a source at once.
 const PIECE: usize = 65_536;
 
-/// How many bytes the buffer has: a longest line and a piece behind it.
+/// How many bytes the buffer may have: a longest line and a piece behind it. It has only those that were needed so far.
 const ROOM: usize = 1_114_112;
 
 /// Takes at most `more` bytes to the place `at`.
@@ -36,6 +36,7 @@ fn take_at<S: Source>(
     ensures fault { IfErr result (λ e. e ≡ LineFault.Read) }
     ensures count { IfOk result (λ n. n ≤ more) }
     ensures len { vec_len buffer.new ≡ vec_len buffer.old }
+    ensures room { vec_capacity buffer.new ≡ vec_capacity buffer.old }
     ensures front { take at buffer.new.items ≡ take at buffer.old.items }
     ensures bytes { IfOk result (λ n. (was : List ℕ) → (S.outside source.old).left ≡ Some was
         → (n ≤ length was) × (take n (drop at buffer.new.items) ≡ take n was)
@@ -121,9 +122,10 @@ pub(crate) struct Window {
     start: usize,
     end: usize,
     allowed: u64,
-    ghost room: { vec_len buffer ≡ 1114112 },
+    ghost room: { 1114112 ≤ vec_capacity buffer },
+    ghost most: { vec_len buffer ≤ 1114112 },
     ghost ordered: { start ≤ end },
-    ghost inside: { end ≤ 1114112 },
+    ghost inside: { end ≤ vec_len buffer },
     ghost bounded: { end ≤ start + allowed + 1 },
 }
 
@@ -137,7 +139,7 @@ impl Window {
         ensures may { IfOk result (λ w. may_take w ≡ allowed + 1) }
     {
         Ok(Window {
-            buffer: vec![in alloc; 0; ROOM]?,
+            buffer: Vec::with_capacity(alloc, ROOM)?,
             start: 0,
             end: 0,
             allowed,
@@ -158,17 +160,33 @@ impl Window {
         self.end = end - start;
     }
 
+    /// Gives the buffer a piece behind what is buffered, of the memory that it has.
+    fn lengthen(&mut self)
+        requires { self.old.end + 65536 ≤ 1114112 }
+        ensures bytes { held self.new ≡ held self.old }
+        ensures room { self.new.end + 65536 ≤ vec_len self.new.buffer }
+        ensures start { self.new.start ≡ self.old.start }
+        ensures end { self.new.end ≡ self.old.end }
+        ensures allowed { self.new.allowed ≡ self.old.allowed }
+    {
+        let len = self.end + PIECE;
+        if self.buffer.len() < len && self.buffer.resize(len, 0).is_err() {
+            unreachable!();
+        }
+    }
+
     /// Leaves room for a piece behind what is buffered.
     fn make_room(&mut self)
         requires { self.old.end ≤ self.old.start + 1048576 }
         ensures bytes { held self.new ≡ held self.old }
-        ensures room { self.new.end + 65536 ≤ 1114112 }
+        ensures room { self.new.end + 65536 ≤ vec_len self.new.buffer }
         ensures len { self.new.end - self.new.start ≡ self.old.end - self.old.start }
         ensures allowed { self.new.allowed ≡ self.old.allowed }
     {
         if ROOM - self.end < PIECE {
             self.move_front();
         }
+        self.lengthen();
     }
 
     /// Buffers more of the source, and says whether anything came.

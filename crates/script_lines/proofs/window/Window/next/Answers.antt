@@ -1,9 +1,10 @@
 use Rattle.std.proofs.Common.{rules, List, ℕ, Option, ◌≡◌, ◌++◌, ◌≤◌, ◌-◌, ◌∙◌, length, drop, subst, sym, ap, arith}
 use Rattle.script_lines.specs.Lines.{Line}
-use Rattle.script_lines.specs.Remains.{Moves}
+use Rattle.script_lines.specs.Remains.{Moves, Draws}
 use Rattle.script_lines.specs.Taking.{Takes}
-use Rattle.script_lines.specs.Windows.{held, shown_in}
-use Rattle.script_lines.proofs.Buffers.{length_between}
+use Rattle.script_lines.specs.Windows.{held, may_take, shown_in}
+use Rattle.disk_model.specs.Runs.{source_trans}
+use Rattle.script_lines.proofs.Buffers.{length_between, draws_trans}
 use Rattle.script_lines.proofs.Showing.{shown_long}
 use Rattle.script_lines.proofs.Skipping.{next_fed, next_rest, next_long, next_clear, clear_now}
 use Rattle.script_lines.proofs.window.Window.next.Goals as goal
@@ -65,3 +66,23 @@ returns-in_err-skip-in-Some-Full-clause-clear g c = λ same.
     next_clear (held old) (g.S.World.outside c.args.source.now).left p (g.S.World.outside c.gather.new.source).left old.allowed c.in_ok-gather.ensures.script
     found.0 m.allowed (omega (arith, c.pass.ensures.allowed, c.in_ok-gather.ensures.allowed)) (held m) (c.pass.ensures.bytes ∙ ap (λ (j : ℕ). drop j p) (sym size))
     (c.in_err-skip-in-Some-Full.ensures.clear (search rules))
+
+-- what is taken up to the end of the rest of a long line
+pub returns-in_ok-skip-in-Some-Full-clause-only : goal.returns-in_ok-skip-in-Some-Full-clause-only
+returns-in_ok-skip-in-Some-Full-clause-only g c = source_trans c.gather.ensures.only c.skip.ensures.only
+
+pub returns-in_ok-skip-in-Some-Full-clause-drawn : goal.returns-in_ok-skip-in-Some-Full-clause-drawn
+returns-in_ok-skip-in-Some-Full-clause-drawn g c =
+    let left = (g.S.World.outside c.args.source.now).left in
+    let middle = (g.S.World.outside c.gather.new.source).left in
+    let is = (g.S.World.outside c.skip.new.source).left in
+    let D : ℕ → Type 0 = λ k. Draws k middle (may_take c.skip.new.self) is in
+    draws_trans (may_take c.args.self.now) (may_take c.gather.new.self) (may_take c.skip.new.self) left middle is c.gather.ensures.drawn (subst D c.pass.ensures.may c.skip.ensures.drawn)
+
+pub returns-in_err-skip-in-Some-Full-clause-drawn : goal.returns-in_err-skip-in-Some-Full-clause-drawn
+returns-in_err-skip-in-Some-Full-clause-drawn g c =
+    let left = (g.S.World.outside c.args.source.now).left in
+    let middle = (g.S.World.outside c.gather.new.source).left in
+    let is = (g.S.World.outside c.skip.new.source).left in
+    let D : ℕ → Type 0 = λ k. Draws k middle (may_take c.skip.new.self) is in
+    draws_trans (may_take c.args.self.now) (may_take c.gather.new.self) (may_take c.skip.new.self) left middle is c.gather.ensures.drawn (subst D c.pass.ensures.may c.skip.ensures.drawn)

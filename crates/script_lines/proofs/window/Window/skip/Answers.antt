@@ -64,3 +64,15 @@ skipped-preserved g c =
       drawn = subst D (sym c.pass-in-Some-Full.ensures.may)
           (draws_trans (may_take first) (may_take s) (may_take n) left (g.S.World.outside c.skipped.source).left is c.skipped.invariant.drawn c.gather.ensures.drawn);
     }
+
+pub returns-in_err-gather-clause-only : goal.returns-in_err-gather-clause-only
+returns-in_err-gather-clause-only g c = source_trans c.skipped.invariant.only c.gather.ensures.only
+
+pub returns-in-Some-TooMuch-clause-only : goal.returns-in-Some-TooMuch-clause-only
+returns-in-Some-TooMuch-clause-only g c = source_trans c.skipped.invariant.only c.gather.ensures.only
+
+pub returns-in-Some-Feed-clause-only : goal.returns-in-Some-Feed-clause-only
+returns-in-Some-Feed-clause-only g c = source_trans c.skipped.invariant.only c.gather.ensures.only
+
+pub returns-in-None-clause-only : goal.returns-in-None-clause-only
+returns-in-None-clause-only g c = source_trans c.skipped.invariant.only c.gather.ensures.only
