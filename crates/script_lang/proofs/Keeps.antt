@@ -1,18 +1,17 @@
--- A command that a line asks keeps the forms and limits of commands, has names as a line spells them, binds a name and gives a data word.
-use Rattle.std.proofs.Common.{◌≡◌, ℕ, ◌^◌, List, [], ◌∷◌, Bool, true, false, ◌&&◌, Some, None, ap, sym, ◌∙◌, refl, true≢false}
+-- What a slot that a word fits keeps: its form and its limit, and a name as a line spells it.
+use Rattle.std.proofs.Common.{◌≡◌, ℕ, ◌^◌, List, [], ◌∷◌, Bool, true, false, ◌&&◌, ap, sym, ◌∙◌, refl, true≢false}
 use Rattle.std.specs.Prelude.{◌==◌, nat_le, nat_lt}
 use Rattle.std.specs.List.{slice_split}
 use Rattle.std.proofs.lemmas.Bool.{eqb-true, and_from}
 use lib.Pointwise.{pointwise}
 use Rattle.table_model.specs.Words.{is_name, is_number, number_of, is_data, dot, are_oid_parts}
-use Rattle.table_model.specs.Requests.{Request, Bound, Numbered, ByWord, ByBytes, is_reference, is_request, spelled_reference, is_spelled, binds_name, gives_word}
-use Rattle.table_model.specs.Requests as request
+use Rattle.table_model.specs.Requests.{Bound, Numbered, is_reference, spelled_reference}
 use Rattle.table_model.proofs.KeptNames.{name_is_kept}
-use Rattle.script_lang.specs.Grammar.{Slot, Key, Name, At, Number, Frames, Of, Given, NoWord, fits, row, within, spells}
+use Rattle.script_lang.specs.Grammar.{Slot, Key, Name, At, Number, Frames, Of, Given, NoWord, fits}
 use Rattle.script_lang.proofs.Slots.{and_first, and_second}
 
 -- the form and the limit of what stands as one word
-abbrev slot_kept : Slot → Bool
+abbrev pub slot_kept : Slot → Bool
 slot_kept (Key key) = true
 slot_kept (Name name) = is_name name
 slot_kept (At name) = is_name name
@@ -36,7 +35,7 @@ frames_kept : (a : Bool) (n : ℕ) → (a && nat_le 1 n && nat_le n 1024) ≡ tr
 frames_kept a n h =
     and_from (nat_le 1 n) (nat_le n 1024) (and_second a (nat_le 1 n) (and_first (a && nat_le 1 n) (nat_le n 1024) h)) (and_second (a && nat_le 1 n) (nat_le n 1024) h)
 
-fits_kept : (s : Slot) (w : List ℕ) → fits s w ≡ true → slot_kept s ≡ true
+pub fits_kept : (s : Slot) (w : List ℕ) → fits s w ≡ true → slot_kept s ≡ true
 fits_kept (Key key) w h = refl
 fits_kept (Name name) w h = and_second _ _ h
 fits_kept (At name) w h = and_second _ _ h
@@ -48,13 +47,13 @@ fits_kept (Given given) w h = and_second _ _ h
 fits_kept NoWord w h = h
 
 -- whether its name is one that a line spells
-abbrev slot_spelled : Slot → Bool
+abbrev pub slot_spelled : Slot → Bool
 slot_spelled (Name name) = is_name name
 slot_spelled (At name) = is_name name
 slot_spelled (Of x) = spelled_reference x
 slot_spelled _ = true
 
-fits_spelled : (s : Slot) (w : List ℕ) → fits s w ≡ true → slot_spelled s ≡ true
+pub fits_spelled : (s : Slot) (w : List ℕ) → fits s w ≡ true → slot_spelled s ≡ true
 fits_spelled (Key key) w h = refl
 fits_spelled (Name name) w h = and_second _ _ h
 fits_spelled (At name) w h = and_second _ _ h
@@ -65,99 +64,12 @@ fits_spelled (Of (Numbered p s u)) w h = refl
 fits_spelled (Given given) w h = refl
 fits_spelled NoWord w h = refl
 
--- each slot of a row passes the test
-abbrev Kept : (Slot → Bool) → List Slot → Type 0
+-- each slot passes the test
+abbrev pub Kept : (Slot → Bool) → List Slot → Type 0
 Kept test [] = Unit {0}
 Kept test (s ∷ ss) = (test s ≡ true) × Kept test ss
 
-module _ (test : Slot → Bool) (fitting : (s : Slot) (w : List ℕ) → fits s w ≡ true → test s ≡ true) where
-  row_kept : (slots : List Slot) (words : List (List ℕ)) → pointwise fits slots words ≡ true → Kept test slots
-  row_kept [] words h = tt
-  row_kept (s ∷ ss) [] h = absurd (true≢false (sym h))
-  row_kept (s ∷ ss) (w ∷ ws) h = (fitting s w (and_first _ _ h), row_kept ss ws (and_second _ _ h))
-
-request_kept : (r : Request) → Kept slot_kept (row r) → within r ≡ true → is_request r ≡ true
-request_kept (request.File name) k w = k.1.0
-request_kept (request.Unfile name) k w = k.1.0
-request_kept (request.ListFile name) k w = k.1.0
-request_kept (request.Create file None) k w = and_from _ _ k.1.0 refl
-request_kept (request.Create file (Some bind)) k w = and_from _ _ k.1.0 (name_is_kept bind k.1.1.1.0)
-request_kept (request.Destroy x) k w = k.1.0
-request_kept (request.Size x) k w = k.1.0
-request_kept (request.Stat x) k w = k.1.0
-request_kept (request.Digest x) k w = k.1.0
-request_kept (request.Versions x) k w = k.1.0
-request_kept (request.DropVersion x) k w = k.1.0
-request_kept (request.Read x pos len) k w = and_from _ _ (and_from _ _ k.1.0 k.1.1.0) w
-request_kept (request.Insert x pos (ByWord word)) k w = and_from _ _ (and_from _ _ k.1.0 k.1.1.0) (and_from _ _ k.1.1.1.0 w)
-request_kept (request.Insert x pos (ByBytes bytes)) k w = and_from _ _ (and_from _ _ k.1.0 k.1.1.0) w
-request_kept (request.Append x (ByWord word)) k w = and_from _ _ k.1.0 (and_from _ _ k.1.1.0 w)
-request_kept (request.Append x (ByBytes bytes)) k w = and_from _ _ k.1.0 w
-request_kept (request.Replace x pos (ByWord word)) k w = and_from _ _ (and_from _ _ k.1.0 k.1.1.0) (and_from _ _ k.1.1.1.0 w)
-request_kept (request.Replace x pos (ByBytes bytes)) k w = and_from _ _ (and_from _ _ k.1.0 k.1.1.0) w
-request_kept (request.Delete x pos len) k w = and_from _ _ (and_from _ _ k.1.0 k.1.1.0) k.1.1.1.0
-request_kept (request.Freeze x None) k w = and_from _ _ k.1.0 refl
-request_kept (request.Freeze x (Some bind)) k w = and_from _ _ k.1.0 (name_is_kept bind k.1.1.1.0)
-request_kept (request.Derive x None) k w = and_from _ _ k.1.0 refl
-request_kept (request.Derive x (Some bind)) k w = and_from _ _ k.1.0 (name_is_kept bind k.1.1.1.0)
-request_kept (request.Group name frames mru) k w = and_from _ _ (and_from _ _ (name_is_kept name k.1.0) (and_first _ _ k.1.1.0)) (and_second _ _ k.1.1.0)
-request_kept (request.Scan x name None) k w = and_from _ _ (and_from _ _ k.1.0 (name_is_kept name k.1.1.1.0)) refl
-request_kept (request.Scan x name (Some group)) k w = and_from _ _ (and_from _ _ k.1.0 (name_is_kept name k.1.1.1.0)) (name_is_kept group k.1.1.1.1.1.0)
-request_kept (request.Next name len) k w = and_from _ _ (name_is_kept name k.1.0) w
-request_kept (request.Close name) k w = name_is_kept name k.1.0
-request_kept _ k w = refl
-
-request_spelled : (r : Request) → Kept slot_spelled (row r) → is_spelled r ≡ true
-request_spelled (request.Create file None) k = refl
-request_spelled (request.Create file (Some bind)) k = k.1.1.1.0
-request_spelled (request.Destroy x) k = k.1.0
-request_spelled (request.Size x) k = k.1.0
-request_spelled (request.Stat x) k = k.1.0
-request_spelled (request.Digest x) k = k.1.0
-request_spelled (request.Versions x) k = k.1.0
-request_spelled (request.DropVersion x) k = k.1.0
-request_spelled (request.Read x pos len) k = k.1.0
-request_spelled (request.Insert x pos given) k = k.1.0
-request_spelled (request.Append x given) k = k.1.0
-request_spelled (request.Replace x pos given) k = k.1.0
-request_spelled (request.Delete x pos len) k = k.1.0
-request_spelled (request.Freeze x None) k = and_from _ _ k.1.0 refl
-request_spelled (request.Freeze x (Some bind)) k = and_from _ _ k.1.0 k.1.1.1.0
-request_spelled (request.Derive x None) k = and_from _ _ k.1.0 refl
-request_spelled (request.Derive x (Some bind)) k = and_from _ _ k.1.0 k.1.1.1.0
-request_spelled (request.Group name frames mru) k = k.1.0
-request_spelled (request.Scan x name None) k = and_from _ _ (and_from _ _ k.1.0 k.1.1.1.0) refl
-request_spelled (request.Scan x name (Some group)) k = and_from _ _ (and_from _ _ k.1.0 k.1.1.1.0) k.1.1.1.1.1.0
-request_spelled (request.Next name len) k = k.1.0
-request_spelled (request.Close name) k = k.1.0
-request_spelled _ k = refl
-
-request_binds : (r : Request) → Kept slot_kept (row r) → binds_name r ≡ true
-request_binds (request.Create file None) k = k.1.1.1.0
-request_binds (request.Create file (Some bind)) k = refl
-request_binds (request.Freeze x None) k = k.1.1.1.0
-request_binds (request.Freeze x (Some bind)) k = refl
-request_binds (request.Derive x None) k = k.1.1.1.0
-request_binds (request.Derive x (Some bind)) k = refl
-request_binds _ k = refl
-
-request_words : (r : Request) → Kept slot_kept (row r) → gives_word r ≡ true
-request_words (request.Insert x pos (ByWord word)) k = refl
-request_words (request.Insert x pos (ByBytes bytes)) k = k.1.1.1.0
-request_words (request.Append x (ByWord word)) k = refl
-request_words (request.Append x (ByBytes bytes)) k = k.1.1.0
-request_words (request.Replace x pos (ByWord word)) k = refl
-request_words (request.Replace x pos (ByBytes bytes)) k = k.1.1.1.0
-request_words _ k = refl
-
-pub asked_kept : (words : List (List ℕ)) (r : Request) → spells words r ≡ true → within r ≡ true → is_request r ≡ true
-asked_kept words r h w = request_kept r (row_kept slot_kept fits_kept (row r) words h) w
-
-pub asked_spelled : (words : List (List ℕ)) (r : Request) → spells words r ≡ true → is_spelled r ≡ true
-asked_spelled words r h = request_spelled r (row_kept slot_spelled fits_spelled (row r) words h)
-
-pub asked_binds : (words : List (List ℕ)) (r : Request) → spells words r ≡ true → binds_name r ≡ true
-asked_binds words r h = request_binds r (row_kept slot_kept fits_kept (row r) words h)
-
-pub asked_words : (words : List (List ℕ)) (r : Request) → spells words r ≡ true → gives_word r ≡ true
-asked_words words r h = request_words r (row_kept slot_kept fits_kept (row r) words h)
+pub all_kept : (test : Slot → Bool) → ((s : Slot) (w : List ℕ) → fits s w ≡ true → test s ≡ true) → (slots : List Slot) (words : List (List ℕ)) → pointwise fits slots words ≡ true → Kept test slots
+all_kept test fitting [] words h = tt
+all_kept test fitting (s ∷ ss) [] h = absurd (true≢false (sym h))
+all_kept test fitting (s ∷ ss) (w ∷ ws) h = (fitting s w (and_first _ _ h), all_kept test fitting ss ws (and_second _ _ h))

@@ -1,6 +1,8 @@
 pub mod WordCuts
 pub mod DataParts
 pub mod Slots
-pub mod Rows
+pub mod Places
+pub mod RowReads
 pub mod Keeps
+pub mod Told
 pub mod Laws

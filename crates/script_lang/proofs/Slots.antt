@@ -11,9 +11,8 @@ use Rattle.hex.specs.Hex.{is_hex_digit}
 use Rattle.hex.proofs.HexLemmas.{decode_of-ok, decode_of-digits}
 use Rattle.table_model.specs.Words.{is_name, is_number, number_of, is_hex, hex_bytes, hex_byte, bytes_or_none, colon, dot, is_oid, are_oid_parts, is_data, are_data_parts, data_of_parts, data_count}
 use Rattle.table_model.specs.Requests.{Reference, Bound, Numbered}
-use Rattle.script_lang.specs.Forms.{◌>>=◌, name_in, bound_in, number_in, numbered_in, numbered_in_parts, reference_in, begins_with_at, count_in, count_in_parts}
+use Rattle.script_lang.specs.Forms.{◌>>=◌, name_in, bound_in, number_in, numbered_in, numbered_in_parts, reference_in, begins_with_at, count_in, count_in_parts, key_in, frames_in, policy_in}
 use Rattle.script_lang.specs.Grammar.{Key, Name, At, Number, Frames, Of, Given, fits}
-use Rattle.script_lang.specs.Spoken.{key_in, frames_in}
 use Rattle.script_lang.proofs.DataParts.{some_part}
 
 -- ---- tests
@@ -51,7 +50,7 @@ given o P x h e = let G : Option _ → Type 0 = λ r. Gives r P in subst G e h
 
 -- ---- words
 
-pub key_reads : (key w : List ℕ) → fits (Key key) w ≡ true → key_in key w ≡ Some w
+pub key_reads : (key w : List ℕ) → fits (Key key) w ≡ true → key_in key w ≡ Some tt
 key_reads key w h =
     let at : key ≡ w = same_bytes key w h in
     let yes : bytes_eq w key ≡ true = ap (bytes_eq w) at ∙ equal_bytes w in
@@ -60,7 +59,7 @@ key_reads key w h =
 pub key_spells : (key w : List ℕ) → Gives (key_in key w) (λ _. fits (Key key) w ≡ true)
 key_spells key w = go (bytes_eq w key) refl
   where
-    go : (b : Bool) → bytes_eq w key ≡ b → Gives (cond b (Some w) None) (λ _. fits (Key key) w ≡ true)
+    go : (b : Bool) → bytes_eq w key ≡ b → Gives (cond b (Some tt) None) (λ (u : Unit {0}). fits (Key key) w ≡ true)
     go true e = ap (λ l. bytes_eq l w) (sym (same_bytes w key e)) ∙ equal_bytes w
     go false e = tt
 

@@ -1,5 +1,5 @@
 -- What one word says, where it has the form.
-use Rattle.std.specs.Prelude.{ℕ, ◌/◌, ◌==◌, ◌&&◌, List, [], ◌∷◌, length, codes, bytes_eq, Bool, false, if◌then◌else◌, Option, Some, None, option_map}
+use Rattle.std.specs.Prelude.{ℕ, ◌/◌, ◌==◌, ◌&&◌, List, [], ◌∷◌, length, codes, bytes_eq, Bool, true, false, nat_le, if◌then◌else◌, Option, Some, None, option_map}
 use Rattle.std.specs.List.{slice_split}
 use Rattle.table_model.specs.Words.{is_name, is_number, number_of, is_hex, colon, dot}
 use Rattle.table_model.specs.Requests.{Reference, Bound, Numbered}
@@ -51,3 +51,17 @@ count_in_parts _ = None
 -- how many bytes a data word gives
 abbrev pub count_in : List ℕ → Option ℕ
 count_in word = count_in_parts (slice_split colon word)
+
+-- this word and no other
+abbrev pub key_in : List ℕ → List ℕ → Option (Unit {0})
+key_in key word = if bytes_eq word key then Some tt else None
+
+-- a number from 1 to 1,024
+abbrev pub frames_in : List ℕ → Option ℕ
+frames_in word = do
+  n ← number_in word
+  if nat_le 1 n && nat_le n 1024 then Some n else None
+
+-- whether the policy is mru
+abbrev pub policy_in : List ℕ → Option Bool
+policy_in word = if bytes_eq word (codes "lru") then Some false else if bytes_eq word (codes "mru") then Some true else None

@@ -2,6 +2,6 @@ pub mod LineWords
 pub mod Grammar
 pub mod Reading
 pub mod Forms
-pub mod Verbs
-pub mod Spoken
+pub mod Rows
+pub mod ReadValues
 pub mod Parsed

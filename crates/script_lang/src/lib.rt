@@ -4,6 +4,8 @@
 mod commands;
 mod forms;
 mod parser;
+mod rows;
+mod values;
 mod words;
 
 pub use forms::name;

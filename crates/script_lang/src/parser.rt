@@ -1,116 +1,18 @@
-//! What a line says: by its first word the verb, and by the others what is asked.
+//! What a line says: by its first word the row, and by the others what is asked.
 
-ghost use Rattle.std.specs.Prelude.{◌≡◌, ◌⊎◌, IfErr, IfOk, IfSome, IsTrue, MatchOption, bytes_eq, true, false};
+ghost use Rattle.std.specs.Prelude.{◌≡◌, ◌⊎◌, ◌∷◌, IfErr, IfOk, IfSome, IsTrue, MatchResult, nat_le, true, false};
+ghost use Rattle.table_model.specs.Words.{data_most};
 ghost use Rattle.table_model.specs.Requests.{binds_name, gives_word, is_request, is_spelled, request_of};
 ghost use Rattle.script_lines.specs.Lines.{Short};
-ghost use Rattle.script_lang.specs.Reading.{Reading, Reads, is_comment};
+ghost use Rattle.script_lang.specs.LineWords.{words_of};
+ghost use Rattle.script_lang.specs.Reading.{Reading, Asks, Fails, Reads, Says, is_comment};
 ghost use Rattle.script_lang.specs.Parsed.{reading_of};
-ghost use Rattle.script_lang.specs.declared.parser.Verb.{Verb};
-ghost use Rattle.script_lang.specs.Verbs.{word_of};
 
 use crate::commands::command;
-use crate::forms::is_word;
+use crate::rows::row_of;
+use crate::values::{Values, read};
 use crate::words::Words;
-use table_model::{Command, Refusal};
-
-/// What a command does, by its first word.
-#[derive(Clone, Copy)]
-pub enum Verb {
-    Begin,
-    Commit,
-    Abort,
-    Checkpoint,
-    Log,
-    Files,
-    Space,
-    File,
-    Unfile,
-    List,
-    Close,
-    Destroy,
-    Size,
-    Stat,
-    Digest,
-    Versions,
-    Drop,
-    Create,
-    Freeze,
-    Derive,
-    Read,
-    Insert,
-    Append,
-    Replace,
-    Delete,
-    Group,
-    Scan,
-    Next,
-}
-
-/// The command that a word begins.
-pub(crate) fn verb_of(word: &[u8]) -> Option<Verb>
-    ensures { MatchOption result ((v : Verb) → bytes_eq word.now (word_of v) ≡ false)
-        (λ v. bytes_eq word.now (word_of v) ≡ true) }
-{
-    if is_word(word, "begin") {
-        Some(Verb::Begin)
-    } else if is_word(word, "commit") {
-        Some(Verb::Commit)
-    } else if is_word(word, "abort") {
-        Some(Verb::Abort)
-    } else if is_word(word, "checkpoint") {
-        Some(Verb::Checkpoint)
-    } else if is_word(word, "log") {
-        Some(Verb::Log)
-    } else if is_word(word, "files") {
-        Some(Verb::Files)
-    } else if is_word(word, "space") {
-        Some(Verb::Space)
-    } else if is_word(word, "file") {
-        Some(Verb::File)
-    } else if is_word(word, "unfile") {
-        Some(Verb::Unfile)
-    } else if is_word(word, "list") {
-        Some(Verb::List)
-    } else if is_word(word, "close") {
-        Some(Verb::Close)
-    } else if is_word(word, "destroy") {
-        Some(Verb::Destroy)
-    } else if is_word(word, "size") {
-        Some(Verb::Size)
-    } else if is_word(word, "stat") {
-        Some(Verb::Stat)
-    } else if is_word(word, "digest") {
-        Some(Verb::Digest)
-    } else if is_word(word, "versions") {
-        Some(Verb::Versions)
-    } else if is_word(word, "drop") {
-        Some(Verb::Drop)
-    } else if is_word(word, "create") {
-        Some(Verb::Create)
-    } else if is_word(word, "freeze") {
-        Some(Verb::Freeze)
-    } else if is_word(word, "derive") {
-        Some(Verb::Derive)
-    } else if is_word(word, "read") {
-        Some(Verb::Read)
-    } else if is_word(word, "insert") {
-        Some(Verb::Insert)
-    } else if is_word(word, "append") {
-        Some(Verb::Append)
-    } else if is_word(word, "replace") {
-        Some(Verb::Replace)
-    } else if is_word(word, "delete") {
-        Some(Verb::Delete)
-    } else if is_word(word, "group") {
-        Some(Verb::Group)
-    } else if is_word(word, "scan") {
-        Some(Verb::Scan)
-    } else if is_word(word, "next") {
-        Some(Verb::Next)
-    } else {
-        None
-    }
-}
+use table_model::{Command, DATA_MOST, Refusal};
 
 /// Whether the word begins with `#`.
 fn begins_comment(word: &[u8]) -> bool
@@ -120,6 +22,37 @@ fn begins_comment(word: &[u8]) -> bool
         Some(b) => *b == b'#',
         None => false,
     }
+}
+
+/// The count, where one line may give or ask for so many bytes.
+fn limited(count: u64) -> Result<u32, Refusal>
+    ensures { MatchResult result (λ n. (n ≡ count)
+        × (nat_le count data_most ≡ true)) (λ e. (e ≡ Refusal.DataLimit)
+        × (nat_le count data_most ≡ false)) }
+{
+    if count <= u64::from(DATA_MOST) {
+        Ok(count as u32)
+    } else {
+        Err(Refusal::DataLimit)
+    }
+}
+
+/// What the words of a command say, by the first and those behind it.
+fn said<'a>(first: &[u8], words: Words<'a>) -> Result<Command<'a>, Refusal>
+    requires { is_comment first.now ≡ false }
+    ensures { MatchResult result
+        (λ command. Says (first.now ∷ words_of words.entry.0.now) (Asks (request_of command)))
+        (λ why. Says (first.now ∷ words_of words.entry.0.now) (Fails why)) }
+{
+    let Some((verb, _, places)) = row_of(first) else {
+        return Err(Refusal::Syntax);
+    };
+    let nothing = Values::nothing();
+    let Some(values) = read(places, words, nothing) else {
+        return Err(Refusal::Syntax);
+    };
+    let len = limited(values.bytes)?;
+    Ok(command(verb, values, len))
 }
 
 /// What the line says: nothing where it is blank or a comment, a command, or why it is none. The words of the command are parts of the line. It takes
@@ -148,10 +81,7 @@ pub fn parse(line: &[u8]) -> Result<Option<Command<'_>>, Refusal>
     if begins_comment(first) {
         return Ok(None);
     }
-    let Some(verb) = verb_of(first) else {
-        return Err(Refusal::Syntax);
-    };
-    match command(verb, words) {
+    match said(first, words) {
         Ok(command) => Ok(Some(command)),
         Err(why) => Err(why),
     }
