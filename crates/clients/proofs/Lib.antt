@@ -1,5 +1,4 @@
 pub mod Numbers
-pub mod Readings
 pub mod Words
 pub mod Fronts
 pub mod LineTurns

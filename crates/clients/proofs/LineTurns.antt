@@ -13,7 +13,7 @@ use Rattle.clients.specs.Numbers.{two_forms}
 use Rattle.clients.specs.Turns.{IsOf, IsQuiet, IsSaid, IsTurn, IsUnread, Turn, Quiet, Said}
 use Rattle.clients.specs.Turns as quiet
 use Rattle.clients.proofs.Numbers.{not_alone, one_front}
-use Rattle.clients.proofs.Readings.{one_reading}
+use Rattle.script_lang.proofs.Laws.{one_reading}
 
 -- ---- a line that begins with a digit isn't silent
 
