@@ -1,5 +1,5 @@
 //! A body that is put into a file.
-ghost use Rattle.std.specs.Prelude.{◌≡◌, ◌≤◌, ◌+◌, ℕ, true, length, None, IfOk, IfErr, IfSome, IfNone, OnOk, OnErr};
+ghost use Rattle.std.specs.Prelude.{◌≡◌, ◌≤◌, ◌+◌, ℕ, true, false, length, None, IfOk, IfErr, IfSome, IfNone, OnOk, OnErr};
 ghost use Rattle.ex_base.specs.declared.names.Area.TheVariants.{Page, Segment};
 ghost use Rattle.ex_base.specs.Ports.{Keeps, HasCause, IsDamage};
 ghost use Rattle.ex_base.specs.declared.names.Index.{Index};
@@ -142,6 +142,7 @@ fn put_on_new_page<P: Pages>(
         → PlacesBody P.Ground pages.old pages.new index.now place body.now) }
     ensures puts { IfOk result (λ place. P.tells pages.old → HasFile P.Ground pages.old index.now
         → PutsBody P.Ground pages.old pages.new index.now place body.now) }
+    ensures fresh { IfOk result (λ place. P.held pages.old place.page.0 ≡ false) }
     ensures free { OnOk result (P.free pages.old Page ≤ P.free pages.new Page + body_pages) }
     ensures takes { OnOk result (OnlyTakes P.Ground pages.old pages.new) }
     ensures sound { IfErr result (λ fault. IsDamage fault → P.tells pages.old
@@ -194,6 +195,8 @@ fn place_by<P: Pages>(
     ensures puts { IfOk result (λ place. P.tells pages.old → HasFile P.Ground pages.old index.now
         → PutsBody P.Ground pages.old pages.new index.now place body.now) }
     ensures free { OnOk result (P.free pages.old Page ≤ P.free pages.new Page + body_pages) }
+    ensures grows { IfOk result (λ place. P.held pages.old place.page.0 ≡ true
+        → P.free pages.new ≡ P.free pages.old) }
     ensures takes { OnOk result (OnlyTakes P.Ground pages.old pages.new) }
     ensures sound { IfErr result (λ fault. IsDamage fault → P.tells pages.old
         → HasFile P.Ground pages.old index.now → ⊥) }
@@ -237,6 +240,8 @@ fn place_from<P: Pages>(
     ensures puts { IfOk result (λ place. P.tells pages.old → HasFile P.Ground pages.old index.now
         → PutsBody P.Ground pages.old pages.new index.now place body.now) }
     ensures free { OnOk result (P.free pages.old Page ≤ P.free pages.new Page + body_pages) }
+    ensures grows { IfOk result (λ place. P.held pages.old place.page.0 ≡ true
+        → P.free pages.new ≡ P.free pages.old) }
     ensures takes { OnOk result (OnlyTakes P.Ground pages.old pages.new) }
     ensures sound { IfErr result (λ fault. IsDamage fault → P.tells pages.old
         → HasFile P.Ground pages.old index.now → ⊥) }
@@ -258,7 +263,7 @@ fn place_from<P: Pages>(
 
 /// Puts a body into a file: onto its lowest page that has room for it, in the lowest vacant slot, else onto a page that it takes. The file is that of
 /// `room`, which then says what is known of the file for as long a body. Where `room` wasn't true of the file, the body comes onto some page with room, or
-/// onto a new one.
+/// onto a new one. No page is taken where its page was there before.
 pub fn place_body<P: Pages>(
     pages: &mut P,
     alloc: Global,
@@ -280,6 +285,8 @@ pub fn place_body<P: Pages>(
         ≡ record { file_no = room.old.file_no; from = place.page; len = length body.now }) }
     ensures unplaced { OnErr result (room.new ≡ room.old) }
     ensures free { OnOk result (P.free pages.old Page ≤ P.free pages.new Page + body_pages) }
+    ensures grows { IfOk result (λ place. P.held pages.old place.page.0 ≡ true
+        → P.free pages.new ≡ P.free pages.old) }
     ensures takes { OnOk result (OnlyTakes P.Ground pages.old pages.new) }
     ensures sound { IfErr result (λ fault. IsDamage fault → P.tells pages.old → (index : Index)
         → HasFile P.Ground pages.old index → index.file_no ≡ room.old.file_no → ⊥) }

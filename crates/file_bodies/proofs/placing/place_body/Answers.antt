@@ -1,4 +1,4 @@
-use Rattle.std.proofs.Common.{ℕ, length, subst, sym, ap, ◌∙◌, ◌≤◌, Some, ◌≡◌, refl, arith}
+use Rattle.std.proofs.Common.{ℕ, Bool, true, length, subst, sym, ap, ◌∙◌, ◌≤◌, Some, ◌≡◌, refl, arith}
 use Rattle.ex_base.specs.declared.names.Index.{Index}
 use Rattle.file_bodies.specs.Places.{NoRoom, PlacesBody, PutsBody}
 use Rattle.file_bodies.specs.Placing.{start_of}
@@ -127,3 +127,8 @@ place_from-requires-clause-usable g c = record { same_file = refl; level = c.in-
 
 pub returns-in-Err-place_from-clause-unplaced : goal.returns-in-Err-place_from-clause-unplaced
 returns-in-Err-place_from-clause-unplaced g c = refl
+
+pub returns-in-Ok-place_from-clause-grows : goal.returns-in-Ok-place_from-clause-grows
+returns-in-Ok-place_from-clause-grows g c = λ held.
+    c.in-Ok-place_from.ensures.grows (subst (λ (h : ℕ → Bool). h c.in-Ok-place_from.place.page.0 ≡ true) (sym c.index_of.ensures.kept.held) held)
+    ∙ c.index_of.ensures.kept.free

@@ -1,4 +1,4 @@
-use Rattle.std.proofs.Common.{Option, None, subst, length, Bool, ap, ℕ, ◌∙◌, sym, ◌≤◌}
+use Rattle.std.proofs.Common.{Option, None, subst, length, Bool, false, ap, ℕ, ◌∙◌, sym, ◌≤◌, ◌≡◌}
 use Rattle.std.proofs.lemmas.Result.{IfErr-weaker, IfOk-weaker, on_ok_weaker}
 use Rattle.ex_base.specs.declared.names.Place.{Place}
 use Rattle.ex_base.proofs.Options.{at_none, at_some}
@@ -167,3 +167,11 @@ put_on_new_page-requires-clause-usable g c = c.requires.usable
 
 pub put_on_new_page-requires-clause-some : goal.put_on_new_page-requires-clause-some
 put_on_new_page-requires-clause-some g c = c.requires.some
+
+pub returns-in-Ok-None-clause-grows : goal.returns-in-Ok-None-clause-grows
+returns-in-Ok-None-clause-grows g c = IfOk-weaker c.put_on_new_page.result _ _ (λ place fresh held.
+    let gone : g.P.Ground.held c.args.pages.now place.page.0 ≡ false = subst (λ (h : ℕ → Bool). h place.page.0 ≡ false) c.put_in_room.ensures.kept.held fresh in
+    absurd cc) c.put_on_new_page.ensures.fresh
+
+pub returns-in-Ok-clause-grows : goal.returns-in-Ok-clause-grows
+returns-in-Ok-clause-grows g c = λ held. c.in-Ok.ensures.put.free ∙ c.put_in_room.ensures.kept.free

@@ -55,3 +55,6 @@ returns-in-Ok-clause-leads g c = c.place_by.ensures.leads
 
 pub returns-in-Ok-clause-cause : goal.returns-in-Ok-clause-cause
 returns-in-Ok-clause-cause g c = c.place_by.ensures.cause
+
+pub returns-in-Ok-clause-grows : goal.returns-in-Ok-clause-grows
+returns-in-Ok-clause-grows g c = c.place_by.ensures.grows

@@ -175,3 +175,6 @@ insert_body-requires-clause-some g c = c.requires.some
 
 pub take_page-requires-clause-len : goal.take_page-requires-clause-len
 take_page-requires-clause-len g c = c.insert_body.auto.image ∙ c.empty_page.auto.image ∙ c.requires.image
+
+pub returns-in-Ok-change_index-clause-fresh : goal.returns-in-Ok-change_index-clause-fresh
+returns-in-Ok-change_index-clause-fresh g c = c.in-Ok.ensures.taken.was_not_held
