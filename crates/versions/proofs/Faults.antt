@@ -1,5 +1,5 @@
 -- What a call on versions tells, from what the calls below it tell.
-use Rattle.std.proofs.Common.{◌≡◌, ◌≤◌, ◌⊎◌, ℕ, Bool, List, length, Some, sym, ap, subst, ◌∙◌, inl, inr}
+use Rattle.std.proofs.Common.{◌≡◌, ◌+◌, ◌≤◌, ◌⊎◌, ℕ, Bool, List, length, Some, sym, ap, subst, ◌∙◌, inl, inr, arith}
 use Rattle.std.specs.Prelude.{⊤}
 use Rattle.ex_base.specs.declared.faults.Seen.{Seen}
 use Rattle.ex_base.specs.declared.faults.PortFault.{PortFault}
@@ -17,10 +17,12 @@ use Rattle.file_bodies.specs.Files.{HasBody}
 use Rattle.file_bodies.specs.Damage.{IsBelongingFault, IsPlaceFault}
 use Rattle.file_bodies.proofs.Blame.{carried}
 use Rattle.trees.specs.Trees.{Units}
-use Rattle.trees.specs.Damage.{IsRootFault}
+use Rattle.trees.specs.Damage.{IsRootReadFault}
+use Rattle.trees.proofs.ReadFaults.{root_read_walks}
 use Rattle.trees.specs.Roots.{IsRootFor}
 use Rattle.versions.specs.Versions.{place_of}
-use Rattle.versions.specs.Damage.{no_tree, record_fault, root_fault, HasSoundWay, IsFoundAnd, IsFoundAt, IsReadThrough, IsRootAt, IsPutFault, IsBytesFault, IsVersionFault, IsStepFault, in_tree, ports, no_place, no_limits, ports_own, unlike, bad_made, looking, not_asked, small, large, own, of_page, unread}
+use Rattle.versions.specs.Damage.{no_tree, record_fault, root_fault, HasSoundWay, IsFoundAnd, IsFoundAt, IsThereAnd, IsReadThrough, IsRootAt, IsPutFault, IsBytesFault, IsVersionFault, IsVersionReadFault, IsStepFault, in_tree, ports, no_place, no_limits, ports_own, unlike, bad_made, looking, not_asked, large, own, of_page, unread, finding, no_bytes, on_the_way}
+use Rattle.versions.proofs.There.{there_as}
 use Rattle.versions.specs.declared.finding.Found.{Found}
 use Rattle.versions.proofs.Standing.{large_content}
 
@@ -62,16 +64,26 @@ bytes_as geo units oid root P Q fault f (in_tree h) = in_tree h
 bytes_as geo units oid root P Q fault f (unlike p is) = unlike (f (subst IsDamage (sym is) tt) p) is
 bytes_as geo units oid root P Q fault f (bad_made made never is) = bad_made made never is
 
-pub version_as : (geo : Geometry) (units : Units) (image : ℕ → List ℕ) (oid : Oid) (P Q : Type 0) (fault : PortFault) → (P → Q) → IsVersionFault geo units image oid P fault → IsVersionFault geo units image oid Q fault
-version_as geo units image oid P Q fault f (looking h) = looking h
-version_as geo units image oid P Q fault f (not_asked p is) = not_asked (f p) is
-version_as geo units image oid P Q fault f (small at h) = small at (bytes_as geo units oid no_tree P Q fault (λ damage. f) h)
-version_as geo units image oid P Q fault f (large root at h) = large root at (bytes_as geo units oid root P Q fault (λ damage. f) h)
-
 pub step_as : (geo : Geometry) (image : ℕ → List ℕ) (P Q : Type 0) (place : Place) (fault : PortFault) → (P → Q) → IsStepFault geo image P place fault → IsStepFault geo image Q place fault
 step_as geo image P Q place fault f (own never) = own never
 step_as geo image P Q place fault f (of_page h) = of_page h
 step_as geo image P Q place fault f (unread p is) = unread (f p) is
+
+-- ---- what a read tells
+
+-- it is told of the version
+pub read_version : (geo : Geometry) (units : Units) (image : ℕ → List ℕ) (oid : Oid) (pos len : ℕ) (fault : PortFault) → IsVersionReadFault geo units image oid pos len fault
+    → IsVersionFault geo units image oid (IsThereAnd geo image oid (λ found. pos + len ≤ found.size) → ⊥) fault
+read_version geo units image oid pos len fault (finding h) = looking h
+read_version geo units image oid pos len fault (no_bytes lacks is) = not_asked lacks is
+read_version geo units image oid pos len fault (on_the_way root at h) = large root at (in_tree (root_read_walks geo units root pos len fault h))
+
+-- a read of some of the bytes tells what a read of more may tell
+pub read_of_more : (geo : Geometry) (units : Units) (image : ℕ → List ℕ) (oid : Oid) (pos len most : ℕ) (fault : PortFault) → pos + len ≤ most → IsVersionReadFault geo units image oid pos len fault → IsVersionReadFault geo units image oid 0 most fault
+read_of_more geo units image oid pos len most fault within (finding h) = finding h
+read_of_more geo units image oid pos len most fault within (no_bytes lacks is) = no_bytes (λ there. lacks (there_as _ _ _ _ _ (λ found enough. omega (arith, within, enough)) there)) is
+read_of_more geo units image oid pos len most fault within (on_the_way root at h) = on_the_way root at (λ damage.
+    let one = h damage in (one.0, (omega arith, omega (arith, within, one.1.1), one.1.2)))
 
 -- ---- the root of a large version
 
@@ -91,8 +103,8 @@ module _ {S : Type 0} (g : ground.Ghosts S) (a b : S) (kept : Keeps g a b) where
   over_units P h told =
       carried g a b (λ y u. P y (g.unit a) u) kept (λ told_b. subst (λ (units : Units). P (g.geometry b) units (g.image b)) kept.units (h told_b)) told
 
-  pub tree_kept : (root : Root) (fault : PortFault) → (g.tells b → IsRootFault (g.geometry b) (g.unit b) root fault) → g.tells a → IsRootFault (g.geometry a) (g.unit a) root fault
-  tree_kept root fault h told = over_units (λ y units image. IsRootFault y units root fault) h told
+  pub tree_read_kept : (root : Root) (pos len : ℕ) (fault : PortFault) → (g.tells b → IsRootReadFault (g.geometry b) (g.unit b) root pos len fault) → g.tells a → IsRootReadFault (g.geometry a) (g.unit a) root pos len fault
+  tree_read_kept root pos len fault h told = over_units (λ y units image. IsRootReadFault y units root pos len fault) h told
 
   pub way_kept : (pos len : ℕ) (root : Root) → (g.tells b → HasSoundWay (g.geometry b) (g.unit b) pos len root) → g.tells a → HasSoundWay (g.geometry a) (g.unit a) pos len root
   way_kept pos len root h told = over_units (λ y units image. HasSoundWay y units pos len root) h told
@@ -107,9 +119,9 @@ module _ {S : Type 0} (g : ground.Ghosts S) (a b : S) (kept : Keeps g a b) where
       → g.tells a → IsBelongingFault (g.geometry a) (g.image a) oid.page.0 fault ⊎ IsBytesFault (g.geometry a) (g.unit a) oid no_tree ⊤ fault
   small_kept oid fault h told = over_units (λ y units image. IsBelongingFault y image oid.page.0 fault ⊎ IsBytesFault y units oid no_tree ⊤ fault) h told
 
-  pub version_kept : (oid : Oid) (Unlike : Geometry → (ℕ → List ℕ) → Type 0) (fault : PortFault) → (g.tells b → IsVersionFault (g.geometry b) (g.unit b) (g.image b) oid (Unlike (g.geometry b) (g.image b)) fault)
-      → g.tells a → IsVersionFault (g.geometry a) (g.unit a) (g.image a) oid (Unlike (g.geometry a) (g.image a)) fault
-  version_kept oid Unlike fault h told = over_units (λ y units image. IsVersionFault y units image oid (Unlike y image) fault) h told
+  pub read_kept : (oid : Oid) (pos len : ℕ) (fault : PortFault) → (g.tells b → IsVersionReadFault (g.geometry b) (g.unit b) (g.image b) oid pos len fault)
+      → g.tells a → IsVersionReadFault (g.geometry a) (g.unit a) (g.image a) oid pos len fault
+  read_kept oid pos len fault h told = over_units (λ y units image. IsVersionReadFault y units image oid pos len fault) h told
 
 -- a record is written in a later state
 pub put_later : {S : Type 0} (g : ground.Ghosts S) (a m : S) (place : Place) (oid : Oid) (made root : Root) (Unlike : Type 0) (fault : PortFault) → g.leads a m → place ≡ place_of oid

@@ -1,5 +1,5 @@
 -- What is told of a version that stands where an OID leads, and records that stand on pages.
-use Rattle.std.proofs.Common.{◌≡◌, ℕ, List, [], length, Option, Some, None, refl, sym, ap, subst, ◌∙◌}
+use Rattle.std.proofs.Common.{◌≡◌, ℕ, List, length, Option, Some, None, refl, sym, ap, subst, ◌∙◌}
 use Rattle.std.proofs.lemmas.Option.{same_Some}
 use Rattle.std.specs.Prelude.{IfSome, IfNone, ⊤}
 use Rattle.ex_base.specs.declared.geometry.Geometry.{Geometry}

@@ -20,7 +20,7 @@ use Rattle.file_index.specs.Index.{IsFilesPage}
 use Rattle.file_bodies.specs.Files.{HasBody}
 use Rattle.file_bodies.specs.Damage.{page_from, HasListed, IsFoundIn, IsBelongingFault, IsListedFault, IsLook, IsLookFault}
 use Rattle.trees.specs.Trees.{Units}
-use Rattle.trees.specs.Damage.{IsRootFault, IsSoundRoot}
+use Rattle.trees.specs.Damage.{IsRootFault, IsRootReadFault, IsSoundRoot}
 use Rattle.trees.specs.Roots.{IsRootFor}
 use Rattle.versions.specs.Listed.{rank_of, start_rank}
 use Rattle.versions.specs.Versions.{place_of, root_of}
@@ -124,6 +124,13 @@ pub data IsVersionFault (g : Geometry) (units : Units) (image : ℕ → List ℕ
   not_asked : Unlike → fault ≡ record_fault (place_of oid) → IsVersionFault g units image oid Unlike fault
   small : IsSmallAt image oid → IsBytesFault g units oid no_tree Unlike fault → IsVersionFault g units image oid Unlike fault
   large : (root : Root) → IsRootAt image oid root → IsBytesFault g units oid root Unlike fault → IsVersionFault g units image oid Unlike fault
+
+-- What a read of so many bytes of a version from a position on tells: what a look for it tells; that no version with these bytes is found on a page of a file;
+-- or, of a large one, of a page on the way down its tree to one of them.
+pub data IsVersionReadFault (g : Geometry) (units : Units) (image : ℕ → List ℕ) (oid : Oid) (pos len : ℕ) (fault : PortFault) : Type 0 where
+  finding : IsFindingFault g image oid fault → IsVersionReadFault g units image oid pos len fault
+  no_bytes : (IsThereAnd g image oid (λ found. pos + len ≤ found.size) → ⊥) → fault ≡ record_fault (place_of oid) → IsVersionReadFault g units image oid pos len fault
+  on_the_way : (root : Root) → IsRootAt image oid root → IsRootReadFault g units root pos len fault → IsVersionReadFault g units image oid pos len fault
 
 -- What is told of a place where a record is read: of the file of its page; or that what stands there isn't as the call asks, where `Unlike` says how.
 pub data IsStepFault (g : Geometry) (image : ℕ → List ℕ) (Unlike : Type 0) (place : Place) (fault : PortFault) : Type 0 where

@@ -1,5 +1,5 @@
 //! A new object.
-ghost use Rattle.std.specs.Prelude.{◌≡◌, ◌≤◌, ◌+◌, ℕ, List, IfOk, IfErr, OnOk, OnErr};
+ghost use Rattle.std.specs.Prelude.{◌≡◌, ◌≤◌, ◌+◌, ℕ, true, List, IfOk, IfErr, OnOk, OnErr};
 ghost use Rattle.ex_base.specs.Ports.{HasCause, IsDamage};
 ghost use Rattle.ex_base.specs.declared.names.Area.TheVariants.{Page, Segment};
 ghost use Rattle.object_records.specs.Record.{BodyOf};
@@ -20,7 +20,8 @@ use object_records::{Head, LARGE_LEN, State, write_small};
 use std::alloc::Global;
 
 /// Puts the record of a new object into the file of `room`: a small version without bytes, under a number that no version has had. It takes at most
-/// `body_pages` pages. Its place is the lowest with room where `room` is true of the file, and else some place that the file hadn't.
+/// `body_pages` pages, and none where its page was there before. Its place is the lowest with room where `room` is true of the file, and else some place that
+/// the file hadn't.
 pub fn create<V: Volume>(
     volume: &mut V,
     alloc: Global,
@@ -41,6 +42,8 @@ pub fn create<V: Volume>(
         ≡ record { file_no = room.old.file_no; from = oid.page; len = 36 }) }
     ensures unplaced { OnErr result (room.new ≡ room.old) }
     ensures pages { OnOk result (V.free volume.old Page ≤ V.free volume.new Page + body_pages) }
+    ensures grows { IfOk result (λ oid. V.held volume.old oid.page.0 ≡ true
+        → V.free volume.new ≡ V.free volume.old) }
     ensures takes { OnOk result (OnlyTakes V.Ground volume.old volume.new) }
     ensures sound { IfErr result (λ fault. IsDamage fault → V.tells volume.old → (index : Index)
         → HasFile V.Ground volume.old index → index.file_no ≡ room.old.file_no → ⊥) }

@@ -8,7 +8,7 @@ ghost use Rattle.object_records.specs.Record.{Content};
 ghost use Rattle.object_records.specs.declared.Head.{Head};
 ghost use Rattle.ex_base.specs.declared.names.Index.{Index};
 ghost use Rattle.versions.specs.Versions.{HoldsVersion};
-ghost use Rattle.versions.specs.Damage.{IsFoundAnd, IsThereAnd, IsReadThrough, IsVersionFault};
+ghost use Rattle.versions.specs.Damage.{IsFoundAnd, IsReadThrough, IsVersionReadFault};
 
 use crate::finding::read_at;
 use ex_base::{Oid, PortFault, ReadVolume};
@@ -56,9 +56,8 @@ fn feed<V: ReadVolume>(
         → HoldsVersion V.Ground volume.old index oid.now head content bytes
         → pos + length piece.old ≤ length bytes → ⊥) }
     ensures fault { IfErr result (λ fault. V.tells volume.old
-        → IsVersionFault (V.geometry volume.old) (V.unit volume.old) (V.image volume.old) oid.now
-        (IsThereAnd (V.geometry volume.old) (V.image volume.old) oid.now
-        (λ found. pos + length piece.old ≤ found.size) → ⊥) fault) }
+        → IsVersionReadFault (V.geometry volume.old) (V.unit volume.old) (V.image volume.old)
+        oid.now pos (length piece.old) fault) }
     ensures kept { Keeps V.Ground volume.old volume.new }
     ensures cause { HasCause (V.faults volume.old) (V.faults volume.new) result }
 {
@@ -93,9 +92,8 @@ pub fn digest_at<V: ReadVolume>(
         → HoldsVersion V.Ground volume.old index oid.now head content bytes
         → size ≤ length bytes → ⊥) }
     ensures fault { IfErr result (λ fault. V.tells volume.old
-        → IsVersionFault (V.geometry volume.old) (V.unit volume.old) (V.image volume.old) oid.now
-        (IsThereAnd (V.geometry volume.old) (V.image volume.old) oid.now
-        (λ found. size ≤ found.size) → ⊥) fault) }
+        → IsVersionReadFault (V.geometry volume.old) (V.unit volume.old) (V.image volume.old)
+        oid.now 0 size fault) }
     ensures kept { Keeps V.Ground volume.old volume.new }
     ensures cause { HasCause (V.faults volume.old) (V.faults volume.new) result }
 {

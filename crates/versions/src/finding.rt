@@ -11,7 +11,7 @@ ghost use Rattle.file_bodies.specs.Files.{HasFileOf, HasBody};
 ghost use Rattle.trees.specs.Roots.{IsRootFor};
 ghost use Rattle.versions.specs.Versions.{HasRecord, HoldsVersion, Stands, place_of};
 ghost use Rattle.versions.specs.Found.{HasLimits, IsReadable, IsRecordBody, IsTold, found_of};
-ghost use Rattle.versions.specs.Damage.{record_fault, IsFoundAnd, IsFoundAt, IsThereAnd, IsReadThrough, IsBodyFault, IsFindingFault, IsStepFault, IsVersionFault};
+ghost use Rattle.versions.specs.Damage.{record_fault, IsFoundAnd, IsFoundAt, IsThereAnd, IsReadThrough, IsBodyFault, IsFindingFault, IsStepFault, IsVersionReadFault};
 
 use crate::recorded::{check, no_record, no_root, place_of};
 use ex_base::{Geometry, Oid, Place, PortFault, ReadVolume, Root};
@@ -348,9 +348,8 @@ pub fn read_at<V: ReadVolume>(
         → HoldsVersion V.Ground volume.old index oid.now head content bytes
         → pos + length out.old ≤ length bytes → ⊥) }
     ensures fault { IfErr result (λ fault. V.tells volume.old
-        → IsVersionFault (V.geometry volume.old) (V.unit volume.old) (V.image volume.old) oid.now
-        (IsThereAnd (V.geometry volume.old) (V.image volume.old) oid.now
-        (λ found. pos + length out.old ≤ found.size) → ⊥) fault) }
+        → IsVersionReadFault (V.geometry volume.old) (V.unit volume.old) (V.image volume.old)
+        oid.now pos (length out.old) fault) }
     ensures kept { Keeps V.Ground volume.old volume.new }
     ensures cause { HasCause (V.faults volume.old) (V.faults volume.new) result }
 {

@@ -1,4 +1,4 @@
-use Rattle.std.proofs.Common.{◌≡◌, ℕ, length, subst, arith, sym, ap}
+use Rattle.std.proofs.Common.{◌≡◌, ℕ, true, length, subst, arith, sym, ap}
 use Rattle.file_bodies.specs.Damage.{IsListedFault, IsPlacingFault}
 use Rattle.file_bodies.specs.Placing.{start_of}
 use Rattle.ex_base.specs.declared.names.Oid.{Oid}
@@ -89,3 +89,11 @@ returns-in-Ok-clause-number g c = ap (λ (o : Oid). o.unique) c.oid_at.ensures
 
 pub returns-in-Err-clause-unplaced : goal.returns-in-Err-clause-unplaced
 returns-in-Err-clause-unplaced g c = c.in-Err.ensures.unplaced
+
+pub returns-in-Ok-clause-grows : goal.returns-in-Ok-clause-grows
+returns-in-Ok-clause-grows g c =
+    subst (λ (o : Oid). g.V.Ground.held c.args.volume.now o.page.0 ≡ true → g.V.Ground.free c.place_body.new.pages ≡ g.V.Ground.free c.args.volume.now)
+    (sym c.oid_at.ensures) c.in-Ok.ensures.grows
+
+pub returns-in-Err-clause-grows : goal.returns-in-Err-clause-grows
+returns-in-Err-clause-grows g c = tt

@@ -1,9 +1,8 @@
 use Rattle.std.proofs.Common.{◌≡◌, ◌≤◌, ◌+◌, ℕ, length, take, subst, arith}
 use Rattle.std.proofs.lemmas.List.{length-take}
 use Rattle.sha2.specs.Hashers.{Holds256}
-use Rattle.versions.specs.Damage.{IsThereAnd, IsFoundAnd, IsReadThrough}
-use Rattle.versions.proofs.Faults.{version_as, version_kept}
-use Rattle.versions.proofs.There.{there_as}
+use Rattle.versions.specs.Damage.{IsFoundAnd, IsReadThrough}
+use Rattle.versions.proofs.Faults.{read_kept, read_of_more}
 use Rattle.versions.proofs.Standing.{kept_holds}
 use Rattle.versions.proofs.Fed.{FedTo, fed_more}
 use Rattle.ex_base.proofs.Keeping.{keeps_on, cause_since}
@@ -16,11 +15,10 @@ returns-in-Err-clause-sound g c = λ damage told index head content bytes has en
     (omega (arith, enough, c.pieces.invariant.inside, c.pieces-test.true, c.piece_len-len.ensures, length-take {A = ℕ}))
 
 pub returns-in-Err-clause-fault : goal.returns-in-Err-clause-fault
-returns-in-Err-clause-fault g c = λ told. version_as _ _ _ _ _ _ c.in-Err.fault
-    (λ lacks there. lacks (there_as _ _ _ _ _ (λ found enough.
-    omega (arith, enough, c.pieces.invariant.inside, c.pieces-test.true, c.piece_len-len.ensures, length-take {A = ℕ})) there))
-    (version_kept g.V.Ground c.args.volume.now c.pieces.volume c.pieces.invariant.kept c.args.oid.now
-    (λ y u. IsThereAnd y u c.args.oid.now (λ found. c.pieces.at + length (take c.piece_len-len.result c.pieces.buffer) ≤ found.size) → ⊥) c.in-Err.fault c.in-Err.ensures.fault told)
+returns-in-Err-clause-fault g c = λ told.
+    read_of_more (g.V.Ground.geometry c.args.volume.now) (g.V.Ground.unit c.args.volume.now) (g.V.Ground.image c.args.volume.now) c.args.oid.now c.pieces.at (length (take c.piece_len-len.result c.pieces.buffer)) c.args.size c.in-Err.fault
+    (omega (arith, c.pieces.invariant.inside, c.pieces-test.true, c.piece_len-len.ensures, length-take {A = ℕ}))
+    (read_kept g.V.Ground c.args.volume.now c.pieces.volume c.pieces.invariant.kept c.args.oid.now c.pieces.at (length (take c.piece_len-len.result c.pieces.buffer)) c.in-Err.fault c.in-Err.ensures.fault told)
 
 pub pieces-preserved : goal.pieces-preserved
 pieces-preserved g c =

@@ -1,5 +1,5 @@
 use Rattle.std.proofs.lemmas.Bool.{false≢true}
-use Rattle.std.proofs.Common.{◌≡◌, ◌+◌, ◌≤◌, length, true, false, ap, ◌∙◌, arith, subst, sym}
+use Rattle.std.proofs.Common.{◌≡◌, ℕ, ◌+◌, ◌≤◌, length, true, false, ap, ◌∙◌, arith, subst, sym}
 use Rattle.std.proofs.lemmas.Result.{IfErr-weaker, on_ok_weaker}
 use Rattle.ex_base.specs.Bytes.{bytes_at}
 use Rattle.ex_base.proofs.Options.{at_none, at_some}
@@ -9,15 +9,15 @@ use Rattle.ex_base.proofs.Results.{if_err_handed}
 use Rattle.object_records.specs.Record.{Large}
 use Rattle.versions.specs.Versions.{place_of}
 use Rattle.file_bodies.proofs.Belonging.{file_of_body}
-use Rattle.versions.specs.Damage.{record_fault, looking, not_asked, large, in_tree}
-use Rattle.versions.proofs.Faults.{root_at, tree_kept, way_kept}
+use Rattle.versions.specs.Damage.{record_fault, finding, no_bytes, on_the_way}
+use Rattle.versions.proofs.Faults.{root_at, tree_read_kept, way_kept}
 use Rattle.versions.proofs.Results.{at_nothing, at_this, none_some, same_some, ok_of}
 use Rattle.versions.proofs.Standing.{version_readable, version_whole, kept_holds, large_version}
 use Rattle.ex_base.proofs.Handed.{not_given, cause_here, cause_of}
 use Rattle.ex_base.proofs.Keeping.{keeps_on}
 use Rattle.ex_base.specs.declared.geometry.Geometry.{Geometry}
 use Rattle.trees.specs.Roots.{IsRootFor}
-use Rattle.trees.proofs.ReadFaults.{root_read_walks}
+use Rattle.trees.specs.Damage.{IsRootReadFault}
 use Rattle.versions.proofs.finding.read_at.Goals as goal
 
 pub returns-in_err-found-clause-sound : goal.returns-in_err-found-clause-sound
@@ -61,15 +61,15 @@ returns-in-Some-clause-sound g c = IfErr-weaker c.read.result _ _ (λ fault neve
     never told_b (version_whole g.V.Ground c.find_reading.new.volume index c.args.oid.now head c.in-Some.root bytes large) damage) c.read.ensures.sound
 
 pub returns-in_err-told-clause-fault : goal.returns-in_err-told-clause-fault
-returns-in_err-told-clause-fault g c = if_err_handed c.from_residual.result _ _ c.from_residual.ensures.1 (λ told. looking (c.in_err-told.ensures.fault told))
+returns-in_err-told-clause-fault g c = if_err_handed c.from_residual.result _ _ c.from_residual.ensures.1 (λ told. finding (c.in_err-told.ensures.fault told))
 
 pub returns-in_err-found-clause-fault : goal.returns-in_err-found-clause-fault
-returns-in_err-found-clause-fault g c = if_err_handed c.from_residual-in_err-found.result _ _ c.from_residual-in_err-found.ensures.1 (λ told. not_asked
+returns-in_err-found-clause-fault g c = if_err_handed c.from_residual-in_err-found.result _ _ c.from_residual-in_err-found.ensures.1 (λ told. no_bytes
     (λ there. at_none c.in_ok-told.told _ c.in_err-found.ensures.fault.0 c.in_ok-told.ensures.none told (there_any _ _ _ _ there))
     (c.in_err-found.ensures.fault.1 ∙ ap record_fault c.place_of-place.ensures))
 
 pub returns-in_err-check-clause-fault : goal.returns-in_err-check-clause-fault
-returns-in_err-check-clause-fault g c = if_err_handed c.from_residual-in_err-check.result _ _ c.from_residual-in_err-check.ensures.1 (λ told. not_asked
+returns-in_err-check-clause-fault g c = if_err_handed c.from_residual-in_err-check.result _ _ c.from_residual-in_err-check.ensures.1 (λ told. no_bytes
     (λ there.
     let at = at_some c.in_ok-told.told c.in_ok-found.found _ c.in_ok-found.ensures.some c.in_ok-told.ensures.reads told in
     let same : c.in_ok-found.found ≡ there.version.found = found_one _ _ _ _ _ at there.version.at in
@@ -82,9 +82,10 @@ returns-in_err-check-clause-fault g c = if_err_handed c.from_residual-in_err-che
 pub returns-in-Some-clause-fault : goal.returns-in-Some-clause-fault
 returns-in-Some-clause-fault g c = IfErr-weaker c.read.result _ _ (λ fault h told.
     let at = at_some c.in_ok-told.told c.in_ok-found.found _ c.in_ok-found.ensures.some c.in_ok-told.ensures.reads told in
-    large c.in-Some.root (root_at (g.V.Ground.geometry c.args.volume.now) (g.V.Ground.image c.args.volume.now) c.args.oid.now c.in_ok-found.found c.in-Some.root at c.in-Some.is)
-    (in_tree (tree_kept g.V.Ground c.args.volume.now c.find_reading.new.volume c.find_reading.ensures.kept c.in-Some.root fault
-    (λ told_b. root_read_walks _ _ c.in-Some.root _ _ fault (h told_b)) told))) c.read.ensures.fault
+    let len : length c.find_reading.new.out ≡ length c.args.out.now = c.in_ok-told.ensures.len in
+    on_the_way c.in-Some.root (root_at (g.V.Ground.geometry c.args.volume.now) (g.V.Ground.image c.args.volume.now) c.args.oid.now c.in_ok-found.found c.in-Some.root at c.in-Some.is)
+    (tree_read_kept g.V.Ground c.args.volume.now c.find_reading.new.volume c.find_reading.ensures.kept c.in-Some.root c.args.pos (length c.args.out.now) fault
+    (λ told_b. subst (λ (n : ℕ). IsRootReadFault (g.V.Ground.geometry c.find_reading.new.volume) (g.V.Ground.unit c.find_reading.new.volume) c.in-Some.root c.args.pos n fault) len (h told_b)) told)) c.read.ensures.fault
 
 -- ---- what was read
 

@@ -1,6 +1,5 @@
 use Rattle.std.proofs.Common.{List, None, Some, ap, false, length, subst, sym, true, ℕ, ◌∙◌, ◌≡◌}
 use Rattle.std.specs.Prelude.{slice_index_or}
-use Rattle.std.specs.Option.{option_map}
 use Rattle.object_records.specs.Record.{BodyOf}
 use Rattle.object_records.specs.Reads.{small_record}
 use Rattle.std.proofs.lemmas.Result.{on_ok_weaker, IfErr-weaker}
