@@ -50,6 +50,7 @@ pub counts_given : {D : Type 0} (outside : D → Outside) (freed : ℕ → Type 
 counts_given outside freed d u v f i g k m units used fewer counted refs apart = record {
   store = counts_frees outside freed d u v f i g units used counted;
   only = reads_refl (outside d.now);
+  told = λ is. is;
   fewer = fewer;
   refs = refs;
   pages = refl;

@@ -15,7 +15,7 @@ use Rattle.ex_base.specs.Area.{area_end, unit_at}
 use Rattle.ex_base.specs.Ports.{IsDamage}
 use Rattle.ex_base.specs.Sizes.{units}
 use Rattle.disk_model.specs.Outside.{Outside}
-use Rattle.disk_model.specs.Runs.{reads_refl, reads_trans}
+use Rattle.disk_model.specs.Runs.{honest_on, reads_refl, reads_trans}
 use Rattle.buffer_groups.specs.Frames.{Frames}
 use Rattle.page_alloc.specs.UnitSet.{UnitSet, free_below, free_count, refs_at, used_at}
 use Rattle.tree_store.specs.Stored.{Fits, Tells, unit_bytes}
@@ -29,6 +29,7 @@ use Rattle.volume_model.proofs.OwnersTurned.{root_stands}
 use Rattle.volume_port.specs.Giving.{GivesUp, is_logged, tree_refs}
 use Rattle.volume_port.specs.GivingUp.{GivesTrees, IsGivingFault, OwnRoots, ReleasesRoots}
 use Rattle.volume_port.specs.Logged.{LoggedSet}
+use Rattle.volume_port.specs.Reading.{TellsBytes}
 use Rattle.volume_port.proofs.Giving.{no_refs_of_logged, refs_of_other}
 
 -- ---- the bytes of a unit at its home
@@ -68,7 +69,7 @@ gives_trees outside freed d e u v f h j g b k l m n x fits =
     let geometry : v.now.geometry ≡ u.now.geometry = (later fits).counted.geometry ∙ sym fits.counted.geometry in
     record {
       only = x.only;
-      told = x.store.told;
+      told = x.told;
       fits = later;
       geometry = geometry;
       fewer = x.fewer;
@@ -76,6 +77,10 @@ gives_trees outside freed d e u v f h j g b k l m n x fits =
       free = λ area. more_free u.now v.now area geometry x.fewer;
       kinds = x.store.kinds;
     }
+
+-- so an honest disk goes on telling
+pub gives_tells : {logged : ℕ → Bool} {g : Geometry} {a b : Outside} {old new : UnitSet} {was now : List Frames} → GivesTrees logged g a b old new was now → Tells a was → Tells b now
+gives_tells gives told = let bytes = gives.told (told.1, told.2) in (honest_on gives.only.nothing.only.goes told.0, bytes.0, bytes.1)
 
 pub none_given : (logged : ℕ → Bool) (g : Geometry) (a : Outside) (units : UnitSet) (groups : List Frames) → GivesTrees logged g a a units units groups groups
 none_given logged g a units groups = record {
@@ -131,7 +136,7 @@ module _ (g : Geometry) (a : Outside) (groups : List Frames) (old : UnitSet) (k 
 
   -- The others own what is left, as a port tells it in its own terms.
   pub left_to_others : (b : Geometry) (e : Outside) (new : UnitSet) (l : LoggedSet) (n : List Bool) → b ≡ g → e.disk ≡ a.disk → l ≡ k → n ≡ m → ((u : ℕ) → refs_at new u ≤ refs_at old u)
-      → (Tells a groups → (logged roots : List ℕ) → AllByRecursion (StandsAt g (unit_bytes g a.disk) root.height) (root_pages (root ∷ []))
+      → (TellsBytes a groups → (logged roots : List ℕ) → AllByRecursion (StandsAt g (unit_bytes g a.disk) root.height) (root_pages (root ∷ []))
       → IsOwned g (unit_bytes g a.disk) (used_at old) (tree_refs k m old) logged (root_pages (root ∷ []) ++ roots) → IsOwned b (unit_bytes b e.disk) (used_at new) (tree_refs l n new) logged roots)
       → IsOwned g (home g own.disk) (used_at new) (refs_at new) own.logged own.others
   left_to_others b e new l n geometry disk pages kept fewer released =
@@ -145,7 +150,7 @@ module _ (g : Geometry) (a : Outside) (groups : List Frames) (old : UnitSet) (k 
 
   -- the same of what is used and counted, under other names
   pub left_under : (b : Geometry) (e : Outside) (new : UnitSet) (l : LoggedSet) (n : List Bool) → b ≡ g → e.disk ≡ a.disk → l ≡ k → n ≡ m → ((u : ℕ) → refs_at new u ≤ refs_at old u)
-      → (Tells a groups → (logged roots : List ℕ) → AllByRecursion (StandsAt g (unit_bytes g a.disk) root.height) (root_pages (root ∷ []))
+      → (TellsBytes a groups → (logged roots : List ℕ) → AllByRecursion (StandsAt g (unit_bytes g a.disk) root.height) (root_pages (root ∷ []))
       → IsOwned g (unit_bytes g a.disk) (used_at old) (tree_refs k m old) logged (root_pages (root ∷ []) ++ roots) → IsOwned b (unit_bytes b e.disk) (used_at new) (tree_refs l n new) logged roots)
       → (used : ℕ → Bool) (refs : ℕ → ℕ) → used ≡ used_at new → refs ≡ refs_at new → IsOwned g (home g own.disk) used refs own.logged own.others
   left_under b e new l n geometry disk pages kept fewer released used refs same counted =
@@ -153,7 +158,7 @@ module _ (g : Geometry) (a : Outside) (groups : List Frames) (old : UnitSet) (k 
       (subst (λ (f : ℕ → ℕ). IsOwned g (home g own.disk) (used_at new) f own.logged own.others) (sym counted) (left_to_others b e new l n geometry disk pages kept fewer released))
 
   -- No damage is told of it.
-  pub not_damaged : (fault : PortFault) → (Tells a groups → (logged roots : List ℕ) → AllByRecursion (StandsAt g (unit_bytes g a.disk) root.height) (pages_of (root_row root))
+  pub not_damaged : (fault : PortFault) → (TellsBytes a groups → (logged roots : List ℕ) → AllByRecursion (StandsAt g (unit_bytes g a.disk) root.height) (pages_of (root_row root))
       → IsOwned g (unit_bytes g a.disk) (used_at old) (tree_refs k m old) logged (pages_of (root_row root) ++ roots) → IsRootFault g (unit_bytes g a.disk) root fault) → IsDamage fault → ⊥
   not_damaged fault blames damage =
       let row : root_pages (root ∷ []) ≡ pages_of (root_row root) = sym (row_pages root.size root.page) in
@@ -211,7 +216,7 @@ only_one one other has = elim (Contains-push_cases [] one other has) [
 ]
 
 -- A fault at one of some roots, after those before it were given up, over what the disk tells at first.
-pub later_fault : (g : Geometry) (a b : Outside) (groups later : List Frames) (roots : List Root) (i : ℕ) → i < length roots → b.disk ≡ a.disk → (Tells a groups → Tells b later) → (fault : PortFault)
+pub later_fault : (g : Geometry) (a b : Outside) (groups later : List Frames) (roots : List Root) (i : ℕ) → i < length roots → b.disk ≡ a.disk → (TellsBytes a groups → TellsBytes b later) → (fault : PortFault)
     → IsGivingFault g b later (get_or roots i no_root ∷ []) fault → IsGivingFault g a groups roots fault
 later_fault g a b groups later roots i lt same told fault is = λ tells.
     let blamed = is (told tells) in

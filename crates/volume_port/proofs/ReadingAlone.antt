@@ -1,5 +1,5 @@
 -- What a port for reading alone goes on telling.
-use Rattle.std.proofs.Common.{◌≡◌, ◌≢◌, ℕ, zero, suc, List, [], ◌∷◌, All, Option, IsSome, slice_get, slice_set, refl, sym, ap, subst}
+use Rattle.std.proofs.Common.{◌≡◌, ℕ, zero, suc, List, [], ◌∷◌, All, Option, IsSome, slice_set, refl, sym, ap, subst}
 use Rattle.disk_model.specs.Outside.{Outside, ReadsOnly}
 use Rattle.buffer_groups.specs.Frames.{Frames, Lends}
 use Rattle.buffer_groups.specs.Groups.{GroupsKeep}

@@ -10,6 +10,7 @@ use Rattle.buffer_groups.specs.Frames.{Frames}
 use Rattle.page_alloc.specs.UnitSet.{UnitSet, used_at, refs_at}
 use Rattle.tree_store.specs.Stored.{Fits, Frees, NoUnit, frees_same, frees_on, frees_wider}
 use Rattle.volume_port.specs.Logged.{LoggedSet, is_held}
+use Rattle.volume_port.specs.Reading.{TellsBytes}
 
 -- the working state or the committed one has the page as a logged page
 abbrev pub is_logged : LoggedSet → List Bool → ℕ → Bool
@@ -26,12 +27,13 @@ pub record CanGive (g : Geometry) (disk_size : ℕ) (groups : List Frames) (inde
   pub flags : length kept ≡ area_end g
 
 -- An earlier and a later state of a port that only gives trees up, over the same borrowed parts: those of a store from which no unit went that isn't of
--- the set. The disk was read at most, each unit that is used was used before, and none has more references. The logged pages are the same, and those that
--- were used are used.
+-- the set. The disk was read at most, and where it tells its bytes and each frame lends them, they do so later. Each unit that is used was used before, and none
+-- has more references. The logged pages are the same, and those that were used are used.
 pub record GivesUp {D : Type 0} (outside : D → Outside) (freed : ℕ → Type 0) (d e : MutBor D) (u v : MutBor UnitSet) (f h : MutBor (List Frames)) (i j : ℕ) (a b : Geometry)
     (k l : LoggedSet) (m n : List Bool) : Type 0 where
   pub store : Frees outside freed d e u v f h i j a b
   pub only : ReadsOnly (outside d.now) (outside e.now)
+  pub told : TellsBytes (outside d.now) f.now → TellsBytes (outside e.now) h.now
   pub fewer : (p : ℕ) → used_at v.now p ≡ true → used_at u.now p ≡ true
   pub refs : (p : ℕ) → refs_at v.now p ≤ refs_at u.now p
   pub pages : l ≡ k
@@ -47,6 +49,7 @@ module _ {D : Type 0} (outside : D → Outside) where
   gives_same d u f i a k m = record {
     store = frees_same outside NoUnit d u f i a;
     only = reads_refl (outside d.now);
+    told = λ is. is;
     fewer = λ p is. is;
     refs = λ p. omega arith;
     pages = refl;
@@ -59,6 +62,7 @@ module _ {D : Type 0} (outside : D → Outside) where
   gives_on freed d e o u v w f h r i j s a b c k l t m n q x y = record {
     store = frees_on outside freed d e o u v w f h r i j s a b c x.store y.store;
     only = reads_trans x.only y.only;
+    told = λ is. y.told (x.told is);
     fewer = λ p is. x.fewer p (y.fewer p is);
     refs = λ p. omega (arith, x.refs p, y.refs p);
     pages = y.pages ∙ x.pages;
@@ -71,6 +75,7 @@ module _ {D : Type 0} (outside : D → Outside) where
   gives_wider few many wider d e u v f h i j a b k l m n x = record {
     store = frees_wider outside few many wider d e u v f h i j a b x.store;
     only = x.only;
+    told = x.told;
     fewer = x.fewer;
     refs = x.refs;
     pages = x.pages;

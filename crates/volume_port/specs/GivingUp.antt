@@ -11,7 +11,7 @@ use Rattle.disk_model.specs.Outside.{Outside, ReadsOnly}
 use Rattle.buffer_groups.specs.Frames.{Frames}
 use Rattle.buffer_groups.specs.Groups.{SameKinds}
 use Rattle.page_alloc.specs.UnitSet.{UnitSet, used_at, refs_at, free_count}
-use Rattle.tree_store.specs.Stored.{Fits, Tells, unit_bytes}
+use Rattle.tree_store.specs.Stored.{Fits, unit_bytes}
 use Rattle.trees.specs.Damage.{IsRootFault, IsWhole}
 use Rattle.trees.specs.Owners.{IsOwned, root_pages}
 use Rattle.trees.specs.Trees.{Units}
@@ -19,12 +19,13 @@ use Rattle.volume_model.specs.Held.{root_here}
 use Rattle.volume_model.specs.Homes.{home}
 pub use Rattle.volume_port.specs.Giving.{is_logged}
 use Rattle.volume_port.specs.Logged.{LoggedSet}
+use Rattle.volume_port.specs.Reading.{TellsBytes}
 
 -- Trees were given up over the parts of a session: the disk was read at most, and units became free, but none that is logged. The parts fit as they did,
 -- each frame lends its page, and each group is of the kind that it was.
 pub record GivesTrees (held : ℕ → Bool) (g : Geometry) (a b : Outside) (old new : UnitSet) (was now : List Frames) : Type 0 where
   pub only : ReadsOnly a b
-  pub told : Tells a was → Tells b now
+  pub told : TellsBytes a was → TellsBytes b now
   pub fits : Fits g a.size was 0 old → Fits g b.size now 0 new
   pub geometry : new.geometry ≡ old.geometry
   pub fewer : (unit : ℕ) → used_at new unit ≡ true → used_at old unit ≡ true
@@ -38,7 +39,7 @@ pub record OwnRoots (pages : LoggedSet) (kept : List Bool) (g : Geometry) (a : O
   pub disk : List ℕ
   pub logged : List ℕ
   pub others : List ℕ
-  pub told : Tells a groups
+  pub told : TellsBytes a groups
   pub holds : a.disk ≡ Some disk
   pub listed : (page : ℕ) → is_logged pages kept page ≡ true → 1 ≤ times page logged
   pub whole : AllByRecursion (IsWhole g (home g disk)) roots
@@ -62,6 +63,6 @@ pub record BlamesRoot (g : Geometry) (units : Units) (roots : List Root) (fault 
   pub one : Contains roots root
   pub way : IsRootFault g units root fault
 
--- so over the bytes that the disk tells and the frames lend
+-- so over the bytes that the disk tells and the frames lend, however honest it is
 abbrev pub IsGivingFault : Geometry → Outside → List Frames → List Root → PortFault → Type 0
-IsGivingFault g a groups roots fault = Tells a groups → BlamesRoot g (unit_bytes g a.disk) roots fault
+IsGivingFault g a groups roots fault = TellsBytes a groups → BlamesRoot g (unit_bytes g a.disk) roots fault

@@ -38,15 +38,16 @@ pub struct GivingPort<'a, D: Disk> {
 impl<'a, D: Disk> Ground for GivingPort<'a, D> {
     ghost use Rattle.trees.specs.Names.{names_on};
     ghost use Rattle.page_alloc.specs.UnitSet.{used_at, free_count};
-    ghost use Rattle.tree_store.specs.Stored.{unit_bytes, Tells, NoUnit};
+    ghost use Rattle.tree_store.specs.Stored.{unit_bytes, NoUnit};
     ghost use Rattle.tree_store.specs.Whole.{leaf_whole};
     ghost use Rattle.volume_port.specs.Giving.{CanGive, GivesUp, is_logged, tree_refs, gives_same, gives_on, gives_wider, gives_ready};
+    ghost use Rattle.volume_port.specs.Reading.{TellsBytes};
 
     ghost geometry = { λ s. s.geometry };
 
     ghost ready = { λ s. CanGive s.geometry (D.outside s.disk.now).size s.groups.now s.index s.units.now s.pages.now s.kept.now };
 
-    ghost tells = { λ s. Tells (D.outside s.disk.now) s.groups.now };
+    ghost tells = { λ s. TellsBytes (D.outside s.disk.now) s.groups.now };
 
     ghost unit = { λ s. unit_bytes s.geometry (D.outside s.disk.now).disk };
 
@@ -70,7 +71,7 @@ impl<'a, D: Disk> Ground for GivingPort<'a, D> {
 
     ghost frees = { λ freed a b. GivesUp D.outside freed a.disk b.disk a.units b.units a.groups b.groups a.index b.index a.geometry b.geometry a.pages.now b.pages.now a.kept.now b.kept.now };
 
-    ghost whole = { λ s ready told page leaf. leaf_whole (D.outside s.disk.now) s.geometry page (D.is_world s.disk.now) ready.fits.disk told.1 leaf };
+    ghost whole = { λ s ready told page leaf. leaf_whole (D.outside s.disk.now) s.geometry page (D.is_world s.disk.now) ready.fits.disk told.0 leaf };
 
     ghost leads_refl = { λ s. gives_same D.outside s.disk s.units s.groups s.index s.geometry s.pages.now s.kept.now };
 
@@ -80,7 +81,7 @@ impl<'a, D: Disk> Ground for GivingPort<'a, D> {
 
     ghost leads_ready = { λ a b x. gives_ready D.outside NoUnit a.disk b.disk a.units b.units a.groups b.groups a.index b.index a.geometry b.geometry a.pages.now b.pages.now a.kept.now b.kept.now x };
 
-    ghost leads_told = { λ a b x. x.store.told };
+    ghost leads_told = { λ a b x. x.told };
 
     ghost leads_faults = { λ a b x. x.only.nothing.only.goes.disk_faults };
 
@@ -94,7 +95,7 @@ impl<'a, D: Disk> Ground for GivingPort<'a, D> {
 
     ghost frees_ready = { λ freed a b x. gives_ready D.outside freed a.disk b.disk a.units b.units a.groups b.groups a.index b.index a.geometry b.geometry a.pages.now b.pages.now a.kept.now b.kept.now x };
 
-    ghost frees_told = { λ freed a b x. x.store.told };
+    ghost frees_told = { λ freed a b x. x.told };
 
     ghost frees_faults = { λ freed a b x. x.only.nothing.only.goes.disk_faults };
 }

@@ -2,6 +2,7 @@ use Rattle.std.proofs.Common.{refl, ap, arith}
 use Rattle.tree_store.specs.Stored.{unit_bytes}
 use Rattle.tree_store.proofs.Forgetting.{groups_brought, groups_not_brought}
 use Rattle.tree_store.proofs.Reading.{range_at, read_leads}
+use Rattle.volume_port.proofs.ReadingAlone.{told_along}
 use Rattle.volume_port.proofs.giving_port.GivingPort.bring.Goals as goal
 
 pub bring-requires-clause-range : goal.bring-requires-clause-range
@@ -25,6 +26,7 @@ returns-clause-kept g c =
         store = read_leads g.D.World.outside s.disk _ s.units s.groups _ s.index s.geometry refl refl brought.only brought.keeps
             (groups_brought (g.D.World.outside s.disk.now).disk s.groups.now _ s.index c.args.page.0 c.requires.ready.fits.group c.requires.page.0 c.in_ok-bring.ensures.ok);
         only = brought.only;
+        told = told_along (g.D.World.outside s.disk.now) _ s.groups.now _ brought.only brought.keeps;
         fewer = λ p is. is;
         refs = λ p. omega arith;
         pages = refl;
@@ -49,6 +51,7 @@ returns-in_err-bring-clause-kept g c =
         store = read_leads g.D.World.outside s.disk _ s.units s.groups _ s.index s.geometry refl refl brought.only brought.keeps
             (groups_not_brought s.groups.now _ s.index c.args.page.0 c.requires.ready.fits.group c.in_err-bring.ensures.err);
         only = brought.only;
+        told = told_along (g.D.World.outside s.disk.now) _ s.groups.now _ brought.only brought.keeps;
         fewer = λ p is. is;
         refs = λ p. omega arith;
         pages = refl;
