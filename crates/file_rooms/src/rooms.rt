@@ -1,7 +1,9 @@
 //! What is remembered of the room of files.
-ghost use Rattle.std.specs.Prelude.{◌≡◌, ◌≤◌, ◌⊎◌, IfOk, IfErr, IfSome};
+ghost use Rattle.std.specs.Prelude.{◌≡◌, ◌≤◌, ◌⊎◌, false, length, nat_lt, if◌then◌else◌, slice_index_or, IfOk, IfErr, IfSome, IfNone, OnOk, OnErr};
 ghost use Rattle.ex_base.specs.Ports.{Keeps, HasCause, IsDamage};
+ghost use Rattle.slotted_pages.specs.Edits.{vacant_at};
 ghost use Rattle.slotted_pages.specs.Reads.{IsPage, page_on};
+ghost use Rattle.file_rooms.specs.Rooms.{behind_all, has_room, is_in, Marks, IsRefused};
 
 use ex_base::{PageNo, PortFault, Volume};
 use file_bodies::Room;
@@ -21,12 +23,12 @@ pub struct FilePage {
 }
 
 /// What a caller remembers of the room of files, so that a new object is looked a place for on the
-/// lowest page that has one, whatever pages are full below or behind it. They are hints: whatever
-/// they say, an update makes the same of the table.
+/// lowest page that has one, whatever pages are full below or behind it. Whatever is remembered, an
+/// update makes the same of the table.
 ///
-/// Of each file at most one `Room` is remembered for the records of new objects, which contracts see
-/// with the file's number, in the order in which the files were first met. Below its page only pages
-/// that are remembered as roomy have room.
+/// Contracts see all that is remembered. It is true of a volume (`AreTrue`) where each page of a file
+/// that has room for the record of a new object is roomy, or stands from the place on that is
+/// remembered of the file. What is remembered of copies is a hint.
 #[derive(Drop)]
 pub struct Rooms {
     rooms: IndexMap<u32, Room>,
@@ -39,12 +41,11 @@ pub struct Rooms {
 }
 
 impl Model for Rooms {
-    ghost use Rattle.std.specs.Prelude.{ℕ, List};
-    ghost use Rattle.file_bodies.specs.declared.placing.Room.{Room};
+    ghost use Rattle.file_rooms.specs.Rooms.{Remembered};
 
-    ghost Value = { List (ℕ × Room) };
+    ghost Value = { Remembered };
 
-    ghost view = { λ r. r.rooms.entries };
+    ghost view = { λ r. record { rooms = r.rooms.entries; copies = r.copies.entries; roomy = r.roomy.keys; changed = r.changed.keys } };
 }
 
 /// A place behind all pages: no page of a file from there on has room.
@@ -54,11 +55,16 @@ const BEHIND_ALL: PageNo = PageNo(u32::MAX);
 const FIELD_LEN: usize = 4;
 
 /// Whether a slot of a page is vacant.
-fn has_vacant(view: &SlottedView<'_>) -> bool {
-    'slots: for slot in 0..view.slots() {
+fn has_vacant(view: &SlottedView<'_>) -> bool
+    ensures { result ≡ nat_lt (vacant_at view.now.page.slots) (length view.now.page.slots) }
+{
+    let slots = view.slots();
+    let mut slot = 0;
+    'slots: while slot < slots {
         if view.body(slot).is_none() {
             return true;
         }
+        slot += 1;
     }
     false
 }
@@ -66,7 +72,10 @@ fn has_vacant(view: &SlottedView<'_>) -> bool {
 /// The file of a page, and whether the page has room for the record of a new object; none where it
 /// isn't the page of a file.
 fn told_by(page: &[u8]) -> Option<(u32, bool)>
-    ensures { IfSome result (λ told. IsPage page.now × ((page_on page.now).file_no ≡ told.0)) }
+    ensures file { IfSome result (λ told. IsPage page.now
+        × ((page_on page.now).file_no ≡ told.0)) }
+    ensures fits { IfSome result (λ told. told.1 ≡ has_room (length page.now) page.now) }
+    ensures none { IfNone result (IsPage page.now → ⊥) }
 {
     let view = SlottedView::of(page)?;
     let room = view.room() as usize;
@@ -75,18 +84,44 @@ fn told_by(page: &[u8]) -> Option<(u32, bool)>
 }
 
 /// Whether the committed state has a page.
-fn has(kept: &Filled<bool>, page: PageNo) -> bool {
+fn has(kept: &Filled<bool>, page: PageNo) -> bool
+    ensures { result ≡ is_in kept.now page.0 }
+{
     let at = page.0 as usize;
     at < kept.len() && kept.get(at)
 }
 
+/// Below which place a file has no room but on roomy pages, once a record was put onto a page that grew
+/// it or onto one that it had.
+fn place_behind(page: PageNo, grew: bool) -> PageNo
+    ensures { result.0 ≡ (if grew then behind_all else page.0) }
+{
+    if grew { BEHIND_ALL } else { page }
+}
+
+/// A page becomes one of some pages, or none of them. Only the first may want memory.
+fn mark(pages: &mut BTreeSet<FilePage>, page: FilePage, is: bool) -> Result<(), AllocError>
+    ensures marked { OnOk result (Marks pages.old.keys pages.new.keys page is) }
+    ensures refused { OnErr result (IsRefused pages.old.keys pages.new.keys page is) }
+{
+    if is {
+        pages.insert(page)?;
+    } else {
+        pages.remove(&page);
+    }
+    Ok(())
+}
+
 impl Rooms {
-    ghost use Rattle.std.specs.Prelude.{[]};
-    ghost use Rattle.file_rooms.specs.Rooms.{ChangesOne, room_of};
+    ghost use Rattle.std.specs.Prelude.{[], nat_eq, ◌↔◌, Contains};
+    ghost use Rattle.std.specs.Map.{lookup};
+    ghost use Rattle.indexmap.specs.IndexMap.{insert_entry};
+    ghost use Rattle.file_rooms.specs.declared.rooms.FilePage.{FilePage};
+    ghost use Rattle.file_rooms.specs.Rooms.{nothing, room_of, lowered_copies, IsLowestOf, IsLookedFrom, IsCopyLookedFrom, IsPassed, GetsRoom, with_place, IsKept, IsNoted, IsUnnoted, IsLookedAt, GoesBack, IsLost};
 
     /// Nothing is remembered.
     pub fn new(alloc: Global) -> Rooms
-        ensures { result ≡ [] }
+        ensures { result ≡ nothing }
     {
         Rooms {
             rooms: IndexMap::new(alloc),
@@ -98,7 +133,7 @@ impl Rooms {
 
     /// What is remembered of a file, but for its roomy pages.
     fn room(&self, file_no: u32) -> Room
-        ensures { result ≡ room_of self.now file_no }
+        ensures { result ≡ room_of self.now.rooms file_no }
     {
         match self.rooms.get(&file_no) {
             Some(room) => Room {
@@ -111,7 +146,9 @@ impl Rooms {
     }
 
     /// The lowest roomy page of a file.
-    fn lowest(&self, file_no: u32) -> Option<PageNo> {
+    fn lowest(&self, file_no: u32) -> Option<PageNo>
+        ensures { IsLowestOf self.now.roomy file_no result }
+    {
         let first = FilePage {
             file_no,
             page: PageNo(0),
@@ -126,7 +163,7 @@ impl Rooms {
     /// where none was looked for yet.
     pub fn of_file(&self, file_no: u32) -> Room
         ensures file { result.file_no ≡ file_no }
-        ensures from { result.from.0 ≤ (room_of self.now file_no).from.0 }
+        ensures looked { IsLookedFrom self.now file_no result }
     {
         let mut room = self.room(file_no);
         if let Some(page) = self.lowest(file_no) {
@@ -138,6 +175,8 @@ impl Rooms {
     /// Where the copy of a version is looked a place for in a file: as for the last copy.
     pub fn of_copy(&self, file_no: u32) -> Room
         ensures file { result.file_no ≡ file_no }
+        ensures looked { IsCopyLookedFrom self.now file_no
+            (lookup (nat_eq file_no) self.now.copies) result }
     {
         match self.copies.get(&file_no) {
             Some(room) => Room {
@@ -149,41 +188,61 @@ impl Rooms {
         }
     }
 
-    /// Remembers where a record was put that was looked a place for from `asked` on: in `room`, on a page
-    /// that `grew` its file or on one that the file had. A roomy page that wasn't taken is none. Where
-    /// the file grew, no other page of it has room.
-    pub fn keep(&mut self, asked: &Room, room: Room, grew: bool)
-        ensures { ChangesOne self.old self.new }
+    /// Remembers where the record of a new object was put that was looked a place for from `asked` on: on
+    /// a page that `grew` its file, or on one that the file had. A roomy page that wasn't taken is none.
+    /// Where the file grew, no other page of it has room.
+    pub fn keep(&mut self, asked: &Room, page: PageNo, grew: bool)
+        ensures { IsKept self.old asked.now page.0 grew self.new }
     {
-        if room.len as usize > LARGE_LEN {
-            return;
-        }
-        if asked.len <= room.len && room.from != asked.from {
+        self.pass(asked, page);
+        self.raise(asked.file_no, place_behind(page, grew));
+    }
+
+    /// A page from which a place was looked for isn't roomy where it wasn't taken.
+    fn pass(&mut self, asked: &Room, taken: PageNo)
+        ensures roomy { (page : FilePage) → Contains self.new.roomy page
+            ↔ (Contains self.old.roomy page × (IsPassed asked.now taken.0 page → ⊥)) }
+        ensures others { self.new ≡ record self.old { roomy = self.new.roomy } }
+    {
+        if asked.from != taken {
             self.roomy.remove(&FilePage {
-                file_no: room.file_no,
+                file_no: asked.file_no,
                 page: asked.from,
             });
         }
-        let mut known = self.room(room.file_no);
-        let from = if grew { BEHIND_ALL } else { room.from };
+    }
+
+    /// No page of a file below a place has room but for roomy ones.
+    fn raise(&mut self, file_no: u32, from: PageNo)
+        ensures rooms { GetsRoom self.old.rooms
+            (with_place self.old.rooms file_no from.0) file_no self.new.rooms }
+        ensures others { self.new ≡ record self.old { rooms = self.new.rooms } }
+    {
+        let known = self.room(file_no);
         if known.from < from {
-            known.from = from;
-            known.len = LARGE_LEN as u32;
-            let _ = self.rooms.insert(room.file_no, known);
+            let raised = Room {
+                file_no,
+                from,
+                len: LARGE_LEN as u32,
+            };
+            let _ = self.rooms.insert(file_no, raised);
         }
     }
 
     /// Remembers where the copy of a version was put.
-    pub fn keep_copy(&mut self, asked: &Room, room: Room, grew: bool)
-        ensures { ChangesOne self.old self.new }
+    #[tactic(auto, using(crate::proofs::Kept::gets_room))]
+    pub fn keep_copy(&mut self, room: Room)
+        ensures copies { GetsRoom self.old.copies
+            (insert_entry nat_eq self.old.copies room.file_no room) room.file_no self.new.copies }
+        ensures others { self.new ≡ record self.old { copies = self.new.copies } }
     {
         let _ = self.copies.insert(room.file_no, room);
-        self.keep(asked, room, grew);
     }
 
     /// Looks at a page on which a record was put, changed or removed, and hands on what was done. A page
     /// with room for the record of a new object is roomy from now on, another isn't. It stops where the
     /// disk fails and where memory is wanted.
+    #[tactic(auto, using(crate::proofs::Looked::looked_outside, crate::proofs::Looked::looked_no_page, crate::proofs::Looked::looked_noted))]
     pub fn look_at<V: Volume, T: Drop>(
         &mut self,
         volume: &mut V,
@@ -193,7 +252,10 @@ impl Rooms {
     ) -> Result<T, PortFault>
         requires { V.ready volume.old }
         ensures same { IfOk result (λ looked. looked ≡ done) }
-        ensures rooms { self.new ≡ self.old }
+        ensures looked { IfOk result (λ looked. V.tells volume.old
+            → IsLookedAt V.Ground volume.old page.0 self.old self.new) }
+        ensures unlooked { OnErr result (IsUnnoted page.0 self.old self.new) }
+        ensures rooms { self.new.rooms ≡ self.old.rooms }
         ensures no_damage { IfErr result (λ fault. IsDamage fault → ⊥) }
         ensures kept { Keeps V.Ground volume.old volume.new }
         ensures cause { HasCause (V.faults volume.old) (V.faults volume.new) result }
@@ -203,14 +265,15 @@ impl Rooms {
         }
         let held = volume.has(page);
         if let Some((file_no, fits)) = told_by(volume.get(alloc, page)?) {
-            self.note(FilePage { file_no, page }, held && fits)?;
+            self.note(FilePage { file_no, page }, held & fits)?;
         }
         Ok(done)
     }
 
     /// Notes a page that the open transaction changed, and whether it is roomy now.
     fn note(&mut self, page: FilePage, roomy: bool) -> Result<(), AllocError>
-        ensures { self.new ≡ self.old }
+        ensures noted { OnOk result (IsNoted page roomy self.old self.new) }
+        ensures unnoted { OnErr result (IsUnnoted page.page.0 self.old self.new) }
     {
         self.changed.insert(page)?;
         if roomy {
@@ -224,7 +287,9 @@ impl Rooms {
 
     /// A copy is looked a place for from this page on, where it would have been from behind it.
     fn lower_copies(&mut self, roomy: FilePage)
-        ensures { self.new ≡ self.old }
+        ensures { self.new ≡ record self.old {
+          copies = lowered_copies self.old.copies roomy;
+        } }
     {
         if let Some(room) = self.copies.get(&roomy.file_no) {
             if roomy.page < room.from {
@@ -237,23 +302,23 @@ impl Rooms {
 
     /// The pages stay as the transaction left them.
     pub fn settle(&mut self)
-        ensures { self.new ≡ self.old }
+        ensures { self.new ≡ record self.old { changed = [] } }
     {
         self.changed.clear();
     }
 
     /// The pages go back to what they were before the transaction: each that it changed may have room,
     /// where `kept` says of its number that the committed state has it.
+    #[tactic(auto, using(crate::proofs::GoingBack::begins, crate::proofs::GoingBack::goes_on, crate::proofs::GoingBack::goes_lost, crate::proofs::GoingBack::gone_back, crate::proofs::GoingBack::lost_all))]
     pub fn go_back(&mut self, kept: &Filled<bool>)
-        ensures { (self.new ≡ self.old) ⊎ (self.new ≡ []) }
+        ensures { GoesBack kept.now self.old self.new ⊎ IsLost kept.now self.old self.new }
     {
         self.copies.clear();
         let mut is_lost = false;
         'pages: while let Some(page) = self.changed.pop_first() {
-            if !has(kept, page.page) {
-                self.roomy.remove(&page);
-            } else if self.roomy.insert(page).is_err() {
-                is_lost = true;
+            match mark(&mut self.roomy, page, has(kept, page.page)) {
+                Ok(()) => {}
+                Err(_) => is_lost = true,
             }
         }
         if is_lost {
@@ -263,7 +328,7 @@ impl Rooms {
 
     /// Forgets all, as where the working state is lost.
     pub fn forget(&mut self)
-        ensures { self.new ≡ [] }
+        ensures { self.new ≡ nothing }
     {
         self.rooms.clear();
         self.copies.clear();
