@@ -33,6 +33,7 @@ use Rattle.volume_model.specs.OwnersShown.{OwnersShown, committed_roots, logged_
 use Rattle.volume_model.specs.Shown.{Lends, used_in}
 use Rattle.volume_model.specs.Volume.{Decoded, file_pages}
 use Rattle.volume_model.proofs.OwnersSwept.{aborted as owners_aborted, gained_first}
+use Rattle.volume_port.proofs.GivingUp.{gives_tells}
 use Rattle.volume_port.specs.GivingUp.{OwnRoots}
 use Rattle.volume_port.specs.Logged.{LoggedSet}
 use Rattle.session_core.specs.Commits.{committed_reach}
@@ -134,7 +135,7 @@ module _ {a : Outside} {before : View SessionState} (now : ShowsNow meant a befo
       frames_left : AllByRecursion (Lends d.geometry before.disk) (held left).frames
       frames_left =
           let fits = gave.gives.fits (fits_session s a.size session room) in
-          let told = gave.gives.told (tells_now now session).told in
+          let told = gives_tells gave.gives (tells_now now session).told in
           frames_shown d.geometry b.disk before.disk groups (gave.gives.only.nothing.disk ∙ now.holds) (subst (λ (g : Geometry). All (λ (f : Frames). f.page_size ≡ g.page_size) groups) (session_geometry now.shows) fits.frames) told.2
 
       rests_left : AtRest b.images d after (held left) before.disk

@@ -25,6 +25,7 @@ use Rattle.volume_model.specs.OwnersShown.{OwnersShown, logged_pages, roots_held
 use Rattle.volume_model.specs.Shown.{HeldScan, ScanShown, root_here, roots_here, used_in}
 use Rattle.volume_model.specs.Volume.{Decoded, Volume}
 use Rattle.volume_model.proofs.OwnersScanned as scanned
+use Rattle.volume_port.proofs.GivingUp.{gives_tells}
 use Rattle.volume_port.specs.GivingUp.{GivesTrees, OwnRoots, ReleasesRoots, is_logged}
 use Rattle.session_core.specs.Finding.{IfShown, IsOutside, stop_at}
 use Rattle.session_core.specs.Meant.{held_view, meant}
@@ -124,7 +125,7 @@ module _ {a : Outside} {before : View SessionState} (now : ShowsNow meant a befo
         rescanned now (remove before.machine.scans index) rest new.units (used_in new.geometry (used_at new.units) Page) (used_in new.geometry (used_at new.units) Segment) rules shown_left owners
         (ap (λ (g : Geometry). used_in g (used_at new.units) Page) new_geometry) (ap (λ (g : Geometry). used_in g (used_at new.units) Segment) new_geometry) in
         let fits = gave.gives.fits (fits_session s a.size session room) in
-        let told = gave.gives.told (tells_now now session).told in
+        let told = gives_tells gave.gives (tells_now now session).told in
         let g = first.shows.decoded.geometry in
         let frames = frames_shown g b.disk before.disk new.groups (gave.gives.only.nothing.disk ∙ now.holds)
         (subst (λ (h : Geometry). All (λ (f : Frames). f.page_size ≡ h.page_size) new.groups) (session_geometry first.shows) fits.frames) told.2 in

@@ -57,3 +57,5 @@ pub mod HeldRows
 pub mod OtherRows
 mod Followed
 mod Fresh
+mod Lowest
+mod Remembering

@@ -140,7 +140,7 @@ module _ {a : Outside} {before : View SessionState} (now : ShowsNow meant a befo
         disk = before.disk;
         logged = logged_pages d now.shows.working;
         others = others;
-        told = tells.told;
+        told = (tells.told.1, tells.told.2);
         holds = tells.holds;
         listed = logged_listed;
         whole = subst (λ (g : Geometry). AllByRecursion (IsWhole g (home g before.disk)) roots) same first.whole;

@@ -21,6 +21,7 @@ use Rattle.session_core.specs.Updates.{HasRoots, HoldsTable, HoldsTurned, IsLoos
 use Rattle.volume_port.specs.State.{Moved}
 use Rattle.volume_port.specs.declared.state.VolumeState.{VolumeState}
 use Rattle.session_core.proofs.Tracking.{counted_gives}
+use Rattle.volume_port.proofs.GivingUp.{gives_tells}
 
 -- a volume with other units and frames
 abbrev pub with_units : VolumeState → UnitSet → List Frames → VolumeState
@@ -33,7 +34,7 @@ gives_moved {a} {b} {c} old mid left groups gives moved =
     let is = moved.ready in
     record {
       changes = changes_trans moved.changes (changes_nothing (InRest old.geometry (used_at old.units) NoUnit) gives.only.nothing);
-      told = λ tells. gives.told (moved.told tells);
+      told = λ tells. gives_tells gives (moved.told tells);
       used = λ unit was stays. gives.logged unit (⊎_elim (λ yes. yes) (λ no. absurd (stays no)) (cases_Bool (is_logged mid.pages mid.kept unit))) (moved.used unit was (λ none. none));
       given_back = moved.given_back;
       untouched = moved.untouched;
@@ -99,7 +100,7 @@ module _ {b c : Outside} (mid : VolumeState) (left units : UnitSet) (groups : Li
           is = rest.is;
           lends = λ tells.
               subst (λ (f : List Frames). All (Lends b.disk) f) same_groups
-              (subst (λ (o : Option (List ℕ)). All (Lends o) groups) gives.only.nothing.disk (gives.told tells).2);
+              (subst (λ (o : Option (List ℕ)). All (Lends o) groups) gives.only.nothing.disk (gives.told (tells.1, tells.2)).1);
           left = left;
           turned =
               subst (λ (k : List Bool). RootsTurned mid.pages k before.session.geometry b mid.groups mid.units left before.session.gained new.gained before.session.lost new.lost gone come) (sym flags)

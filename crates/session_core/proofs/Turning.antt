@@ -221,7 +221,7 @@ module _ {S : Type 0} (g : ground.Ghosts S) (s t : S) (names : NamesPairs g) {a 
     disk = later;
     logged = L ++ file_pages w;
     others = root_pages (roots_held d (rest ++ root_here come) scans);
-    told = told;
+    told = (told.1, told.2);
     holds = holds;
     listed = listed;
     whole = went_still;

@@ -38,6 +38,7 @@ use Rattle.session_core.proofs.Checkpointing.{GoesHome, HomeMoments, checkpoint_
 use Rattle.session_core.proofs.Committing.{Moments, Commits, FramesAfter, numbered, numbered_pages, numbered_rows, committed_session, commit_moments, commit_logs}
 use Rattle.session_core.proofs.CommitSteps.{GaveLost, commit_exact, commit_steps, own_lost, tells_read}
 use Rattle.session_core.proofs.Releasing.{GaveUp}
+use Rattle.volume_port.proofs.GivingUp.{gives_tells}
 use Rattle.volume_port.specs.GivingUp.{OwnRoots}
 
 -- ---- checkpoints
@@ -196,7 +197,7 @@ module _ {a i m b : Outside} {before : View SessionState} (page image : List ℕ
 
   frames_now : FramesAfter b s.geometry later
   frames_now =
-      let told = made.lost.gave.gives.told (tells_read now kept.session was made.lost.reads made.lost.lends).told in
+      let told = gives_tells made.lost.gave.gives (tells_read now kept.session was made.lost.reads made.lost.lends).told in
       record { sizes = made.frames.sizes; lends = made.frames.lends told.0 made.behind told.2 }
 
   pub made_steps : (new : SessionState) → committed_session s log meta later flags units ≡ new → Stepped meant before request.Commit (reply.Commit number) new b

@@ -16,3 +16,4 @@ pub mod Tallies
 pub mod ScanRows
 pub mod Opening
 pub mod Phases
+pub mod Roomy

@@ -1,15 +1,21 @@
 //! Objects are made, changed and removed in a volume, over any port: what is done to the volume's pages is the same as what is done to its table.
-ghost use Rattle.std.specs.Prelude.{◌≡◌, IfErr, IfOk, OnOk};
+ghost use Rattle.std.specs.Prelude.{◌≡◌, ℕ, List, IfErr, IfOk, OnOk};
 ghost use Rattle.ex_base.specs.Ports.{HasCause};
 ghost use Rattle.ex_base.specs.declared.names.Area.TheVariants.{Page};
 ghost use Rattle.volume_edits.specs.TableUpdates.{TableUpdate, TakesNeed, Changes};
 ghost use Rattle.session_core.specs.Performed.{LeavesShaped, Updates, asked_of};
 ghost use Rattle.session_core.specs.Performed.{CanPerform, IsCopying, IsUpdate, NamesOid, charge_of};
-ghost use Rattle.session_core.specs.Damage.{IsFaultIn, the_version};
+ghost use Rattle.session_core.specs.Damage.{IsFaultIn, version_for};
+ghost use Rattle.volume_edits.specs.Purposes.{ToChange};
+ghost use Rattle.session_core.specs.Roomy.{ComesLowest, LeavesTrue, StaysTrue};
 ghost use Rattle.file_index.specs.Taking.{OnlyTakes};
 ghost use Rattle.file_index.specs.Touches.{TouchesAtMost};
 ghost use Rattle.file_rooms.specs.Rooms.{ChangesOne};
 ghost use Rattle.versions.specs.Edited.{change_of};
+ghost use Rattle.versions.specs.Versions.{AreInUse, HasVersion};
+ghost use Rattle.ex_base.specs.declared.names.Index.{Index};
+ghost use Rattle.object_records.specs.Record.{Content};
+ghost use Rattle.object_records.specs.declared.Head.{Head};
 
 mod copying;
 mod creating;
@@ -81,8 +87,13 @@ fn change<V: Volume>(
     ensures takes { OnOk result (TakesNeed V.Ground volume.old volume.new
         (Changes oid.now (change_of edit.now))) }
     ensures touches { OnOk result (TouchesAtMost V.Ground volume.old volume.new 1) }
-    ensures rooms { ChangesOne rooms.old rooms.new }
-    ensures fault { IfErr result (IsFaultIn V.Ground volume.old (the_version oid.now)) }
+    ensures rooms { ChangesOne rooms.old.rooms rooms.new.rooms }
+    ensures remembers { IfOk result (λ done. V.tells volume.old → AreInUse V.Ground volume.old
+        → (index : Index) (head : Head) (content : Content) (bytes : List ℕ)
+        → HasVersion V.Ground volume.old index oid.now head content bytes
+        → StaysTrue V.Ground volume.old volume.new rooms.old rooms.new) }
+    ensures fault { IfErr result (IsFaultIn V.Ground volume.old (version_for oid.now
+        (ToChange (change_of edit.now) (V.used volume.old) (V.free volume.old)))) }
     ensures leads { V.leads volume.old volume.new }
     ensures cause { HasCause (V.faults volume.old) (V.faults volume.new) result }
 {
@@ -125,8 +136,13 @@ pub fn perform<V: Volume>(
         → OnOk result (TakesNeed V.Ground volume.old volume.new u) }
     ensures touches { OnOk result (TouchesAtMost V.Ground volume.old volume.new
         (charge_of update.now)) }
-    ensures rooms { ChangesOne rooms.old rooms.new }
-    ensures fault { IfErr result (IsFaultIn V.Ground volume.old (asked_of update.now)) }
+    ensures rooms { ChangesOne rooms.old.rooms rooms.new.rooms }
+    ensures lowest { IfOk result (λ done. V.tells volume.old
+        → ComesLowest V.Ground volume.old rooms.old update.now done.oid) }
+    ensures remembers { IfOk result (λ done. V.tells volume.old
+        → LeavesTrue V.Ground volume.old volume.new rooms.old rooms.new update.now) }
+    ensures fault { IfErr result (IsFaultIn V.Ground volume.old
+        (asked_of (V.used volume.old) (V.free volume.old) update.now)) }
     ensures leads { V.leads volume.old volume.new }
     ensures cause { HasCause (V.faults volume.old) (V.faults volume.new) result }
 {

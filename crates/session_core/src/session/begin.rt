@@ -55,8 +55,7 @@ impl Session {
         requires room { volume_bytes self.old.geometry ≤ (H.outside host.old).size }
         ensures steps { Steps (H.outside host.old)
             (H.outside host.new) self.old self.new request.Abort result }
-        ensures damage { IsTrue (H.outside host.old).honest
-            → IfErr result (TellsDamage (H.outside host.old) (H.outside host.new)
+        ensures damage { IfErr result (TellsDamage (H.outside host.old) (H.outside host.new)
             self.old no_version) }
 
         // The pages that the transaction took are free.

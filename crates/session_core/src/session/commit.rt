@@ -65,8 +65,7 @@ impl Session {
         requires room { volume_bytes self.old.geometry ≤ (H.outside host.old).size }
         ensures steps { Steps (H.outside host.old)
             (H.outside host.new) self.old self.new request.Commit result }
-        ensures damage { IsTrue (H.outside host.old).honest
-            → IfErr result (TellsDamage (H.outside host.old) (H.outside host.new)
+        ensures damage { IfErr result (TellsDamage (H.outside host.old) (H.outside host.new)
             self.old no_version) }
         ensures logs { (before : View SessionState) → before.session ≡ self.old
             → (shown : ShowsNow meant (H.outside host.old) before) → self.old.opened ≡ true

@@ -8,9 +8,10 @@ ghost use Rattle.ex_base.specs.declared.names.Root.{Root};
 ghost use Rattle.ex_base.specs.declared.names.Area.TheVariants.{Page};
 ghost use Rattle.page_alloc.specs.UnitSet.{UnitSet, free_count, refs_at, used_at};
 ghost use Rattle.trees.specs.Owners.{page_here};
+ghost use Rattle.volume_port.specs.Reading.{TellsBytes};
 ghost use Rattle.volume_port.specs.GivingUp.{CountsRoot, GivesTrees, IsGivingFault, OwnRoots, ReleasesRoots};
 ghost use Rattle.volume_port.specs.Giving.{is_logged};
-ghost use Rattle.tree_store.specs.Stored.{Fits, IsCounted, Tells, unit_bytes};
+ghost use Rattle.tree_store.specs.Stored.{Fits, IsCounted, unit_bytes};
 ghost use Rattle.session_core.specs.Damage.{IsTurningFault};
 ghost use Rattle.session_core.specs.Turning.{NonePaged, TakenOut, VolumeGives, VolumeOwns, VolumeTurned, VolumeWent};
 
@@ -146,7 +147,7 @@ fn turn_gone<D: Disk>(
         → ((rest : List Root) → TakenOut gained.old.items rest gone.now
         → VolumeOwns (D.outside disk.old) volume.old volume.old.units (root_here gone.now)) → ⊥) }
     ensures fault { IfErr result (λ fault. IsDamage fault
-        → Tells (D.outside disk.old) volume.old.groups → IsTurningFault volume.old.geometry
+        → TellsBytes (D.outside disk.old) volume.old.groups → IsTurningFault volume.old.geometry
         (unit_bytes volume.old.geometry (D.outside disk.old).disk) gained.old.items fault) }
     ensures cause { HasCause (D.outside disk.old).disk_faults
         (D.outside disk.new).disk_faults result }
@@ -198,7 +199,7 @@ pub(super) fn turn_roots<D: Disk>(
         → TakenOut gained.old.items rest done.now.gone
         → VolumeOwns (D.outside disk.old) volume.old counted (root_here done.now.gone)) → ⊥) }
     ensures fault { IfErr result (λ fault. IsDamage fault
-        → Tells (D.outside disk.old) volume.old.groups → IsTurningFault volume.old.geometry
+        → TellsBytes (D.outside disk.old) volume.old.groups → IsTurningFault volume.old.geometry
         (unit_bytes volume.old.geometry (D.outside disk.old).disk) gained.old.items fault) }
     ensures cause { HasCause (D.outside disk.old).disk_faults
         (D.outside disk.new).disk_faults result }

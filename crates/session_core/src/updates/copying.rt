@@ -6,14 +6,14 @@ ghost use Rattle.file_bodies.specs.Touches.{body_pages};
 ghost use Rattle.file_index.specs.Taking.{OnlyTakes};
 ghost use Rattle.file_index.specs.Touches.{TouchesAtMost};
 ghost use Rattle.file_rooms.specs.Rooms.{ChangesOne};
-ghost use Rattle.session_core.specs.Damage.{IsFaultIn, the_version};
-ghost use Rattle.session_core.specs.Performed.{copies};
+ghost use Rattle.session_core.specs.Damage.{IsFaultIn, version_for};
+ghost use Rattle.session_core.specs.Performed.{copies, to_copy};
 ghost use Rattle.volume_edits.specs.TableUpdates.{TakesNeed};
 ghost use Rattle.session_core.specs.Performed.{LeavesShaped, Updates};
 
 use super::Done;
 use super::creating::count_number;
-use ex_base::{Area, Oid, PortFault, Volume};
+use ex_base::{Oid, PortFault, Volume};
 use file_rooms::Rooms;
 use std::alloc::Global;
 use version_tree::{derive, file_of, freeze};
@@ -49,22 +49,21 @@ pub fn copy<V: Volume>(
     ensures takes { OnOk result (TakesNeed V.Ground volume.old volume.new
         (copies copying oid.now unique)) }
     ensures touches { OnOk result (TouchesAtMost V.Ground volume.old volume.new 16) }
-    ensures rooms { ChangesOne rooms.old rooms.new }
-    ensures fault { IfErr result (IsFaultIn V.Ground volume.old (the_version oid.now)) }
+    ensures rooms { ChangesOne rooms.old.rooms rooms.new.rooms }
+    ensures fault { IfErr result (IsFaultIn V.Ground volume.old
+        (version_for oid.now (to_copy copying))) }
     ensures leads { V.leads volume.old volume.new }
     ensures cause { HasCause (V.faults volume.old) (V.faults volume.new) result }
 {
     count_number(volume, alloc, unique)?;
-    let asked = rooms.of_copy(file_of(volume, alloc, place_of(oid))?);
-    let free = volume.free(Area::Page);
-    let mut room = asked;
+    let mut room = rooms.of_copy(file_of(volume, alloc, place_of(oid))?);
     let copied = match copying {
         Copying::Freeze => freeze(volume, alloc, oid, &mut room, unique),
         Copying::Derive => derive(volume, alloc, oid, &mut room, unique),
     };
     match copied {
         Ok(made) => {
-            rooms.keep_copy(&asked, room, volume.free(Area::Page) < free);
+            rooms.keep_copy(room);
             let done = Done {
                 oid: made.oid,
                 gone: None,

@@ -6,6 +6,8 @@ ghost use Rattle.ex_base.specs.declared.faults.PortFault.TheVariants.{Damaged};
 ghost use Rattle.ex_base.specs.declared.names.Area.TheVariants.{Page};
 ghost use Rattle.ex_base.specs.Seen.{catalog_seen, nothing_seen};
 ghost use Rattle.file_bodies.specs.Damage.{IsCatalogFault};
+ghost use Rattle.ex_base.specs.declared.names.Index.{Index};
+ghost use Rattle.file_bodies.specs.Files.{HasFile};
 ghost use Rattle.file_bodies.specs.Touches.{body_pages};
 ghost use Rattle.file_index.specs.Taking.{OnlyTakes};
 ghost use Rattle.file_index.specs.Touches.{TouchesAtMost};
@@ -15,7 +17,9 @@ ghost use Rattle.volume_edits.specs.Edits.{WritesCatalog, catalog_numbered};
 ghost use Rattle.file_rooms.specs.Rooms.{ChangesOne};
 ghost use Rattle.volume_edits.specs.TableUpdates.{Makes, TakesNeed};
 ghost use Rattle.session_core.specs.Performed.{LeavesShaped, Updates};
+ghost use Rattle.session_core.specs.Roomy.{IsPutLowest, StaysTrue};
 ghost use Rattle.session_core.specs.Damage.{IsFaultIn, no_version};
+ghost use Rattle.volume_edits.specs.Purposes.{anyhow};
 
 use super::Done;
 use ex_base::{Area, PageNo, PortFault, Seen, Volume};
@@ -97,8 +101,13 @@ pub fn create<V: Volume>(
     ensures takes { (name : List ℕ) → OnOk result (TakesNeed V.Ground volume.old volume.new
         (Makes name file_no unique)) }
     ensures touches { OnOk result (TouchesAtMost V.Ground volume.old volume.new 16) }
-    ensures rooms { ChangesOne rooms.old rooms.new }
-    ensures fault { IfErr result (IsFaultIn V.Ground volume.old no_version) }
+    ensures rooms { ChangesOne rooms.old.rooms rooms.new.rooms }
+    ensures lowest { IfOk result (λ done. V.tells volume.old
+        → IsPutLowest V.Ground volume.old rooms.old file_no done.oid) }
+    ensures remembers { IfOk result (λ done. V.tells volume.old → (index : Index)
+        → HasFile V.Ground volume.old index → index.file_no ≡ file_no
+        → StaysTrue V.Ground volume.old volume.new rooms.old rooms.new) }
+    ensures fault { IfErr result (IsFaultIn V.Ground volume.old (anyhow no_version)) }
     ensures leads { V.leads volume.old volume.new }
     ensures cause { HasCause (V.faults volume.old) (V.faults volume.new) result }
 {
@@ -108,7 +117,8 @@ pub fn create<V: Volume>(
     let mut room = asked;
     match create_version(volume, alloc, &mut room, unique) {
         Ok(oid) => {
-            rooms.keep(&asked, room, volume.free(Area::Page) < free);
+            let grew = volume.free(Area::Page) < free;
+            rooms.keep(&asked, oid.page, grew);
             let done = Done {
                 oid,
                 gone: None,

@@ -1,5 +1,6 @@
 use Rattle.std.proofs.Common.{sym, subst}
 use Rattle.std.specs.Prelude.{OnOk, IfErr, IfOk}
+use Rattle.ex_base.proofs.Handed.{any_value}
 use Rattle.session_core.specs.declared.updates.ObjectUpdate.{ObjectUpdate}
 use Rattle.session_core.specs.Performed.{IsUpdate, asked_of, IsCopying, NamesOid, Updates, charge_of}
 use Rattle.volume_edits.specs.TableUpdates.{Drops, Removes, TableUpdate, TakesNeed}
@@ -7,6 +8,7 @@ use Rattle.session_core.specs.Damage.{IsFaultIn}
 use Rattle.file_index.specs.Touches.{TouchesAtMost}
 use Rattle.session_core.specs.declared.updates.Done.{Done}
 use Rattle.session_core.specs.Performed.{LeavesShaped}
+use Rattle.session_core.specs.Roomy.{ComesLowest, LeavesTrue}
 use Rattle.session_core.proofs.Contents.{none_shaped}
 use Rattle.session_core.proofs.updates.perform.Goals as goal
 
@@ -16,19 +18,19 @@ returns-in-Create-clause-takes g c = λ u is.
     subst (λ (w : TableUpdate). OnOk c.create.result (TakesNeed g.V.Ground c.args.volume.now c.create.new.volume w)) (sym made.1) (c.create.ensures.takes made.0)
 
 pub returns-in-Create-clause-fault : goal.returns-in-Create-clause-fault
-returns-in-Create-clause-fault g c = subst (λ (update : ObjectUpdate). IfErr c.create.result (IsFaultIn g.V.Ground c.args.volume.now (asked_of update))) (sym c.in-Create.is) c.create.ensures.fault
+returns-in-Create-clause-fault g c = subst (λ (update : ObjectUpdate). IfErr c.create.result (IsFaultIn g.V.Ground c.args.volume.now (asked_of (g.V.Ground.used c.args.volume.now) (g.V.Ground.free c.args.volume.now) update))) (sym c.in-Create.is) c.create.ensures.fault
 
 pub returns-in-Change-clause-fault : goal.returns-in-Change-clause-fault
-returns-in-Change-clause-fault g c = subst (λ (update : ObjectUpdate). IfErr c.change.result (IsFaultIn g.V.Ground c.args.volume.now (asked_of update))) (sym c.in-Change.is) c.change.ensures.fault
+returns-in-Change-clause-fault g c = subst (λ (update : ObjectUpdate). IfErr c.change.result (IsFaultIn g.V.Ground c.args.volume.now (asked_of (g.V.Ground.used c.args.volume.now) (g.V.Ground.free c.args.volume.now) update))) (sym c.in-Change.is) c.change.ensures.fault
 
 pub returns-in-Remove-clause-fault : goal.returns-in-Remove-clause-fault
-returns-in-Remove-clause-fault g c = subst (λ (update : ObjectUpdate). IfErr c.remove.result (IsFaultIn g.V.Ground c.args.volume.now (asked_of update))) (sym c.in-Remove.is) c.remove.ensures.fault
+returns-in-Remove-clause-fault g c = subst (λ (update : ObjectUpdate). IfErr c.remove.result (IsFaultIn g.V.Ground c.args.volume.now (asked_of (g.V.Ground.used c.args.volume.now) (g.V.Ground.free c.args.volume.now) update))) (sym c.in-Remove.is) c.remove.ensures.fault
 
 pub returns-in-Copy-clause-fault : goal.returns-in-Copy-clause-fault
-returns-in-Copy-clause-fault g c = subst (λ (update : ObjectUpdate). IfErr c.copy.result (IsFaultIn g.V.Ground c.args.volume.now (asked_of update))) (sym c.in-Copy.is) c.copy.ensures.fault
+returns-in-Copy-clause-fault g c = subst (λ (update : ObjectUpdate). IfErr c.copy.result (IsFaultIn g.V.Ground c.args.volume.now (asked_of (g.V.Ground.used c.args.volume.now) (g.V.Ground.free c.args.volume.now) update))) (sym c.in-Copy.is) c.copy.ensures.fault
 
 pub returns-in-Drop-clause-fault : goal.returns-in-Drop-clause-fault
-returns-in-Drop-clause-fault g c = subst (λ (update : ObjectUpdate). IfErr c.drop_frozen.result (IsFaultIn g.V.Ground c.args.volume.now (asked_of update))) (sym c.in-Drop.is) c.drop_frozen.ensures.fault
+returns-in-Drop-clause-fault g c = subst (λ (update : ObjectUpdate). IfErr c.drop_frozen.result (IsFaultIn g.V.Ground c.args.volume.now (asked_of (g.V.Ground.used c.args.volume.now) (g.V.Ground.free c.args.volume.now) update))) (sym c.in-Drop.is) c.drop_frozen.ensures.fault
 
 -- ---- what else is promised
 
@@ -146,3 +148,43 @@ pub returns-in-Drop-clause-shaped : goal.returns-in-Drop-clause-shaped
 returns-in-Drop-clause-shaped g c = λ u is.
     let made = subst (λ (update : ObjectUpdate). IsUpdate update u) c.in-Drop.is is in
     subst (λ (w : TableUpdate). IfOk c.drop_frozen.result (λ (done : Done). LeavesShaped g.V.Ground c.args.volume.now c.drop_frozen.new.volume w done.oid)) (sym made) (none_shaped g.V.Ground c.args.volume.now c.drop_frozen.new.volume (Drops c.in-Drop.oid) (λ p q made. tt) c.drop_frozen.result)
+
+pub returns-in-Create-clause-lowest : goal.returns-in-Create-clause-lowest
+returns-in-Create-clause-lowest g c = subst (λ (update : ObjectUpdate). IfOk c.create.result (λ (done : Done). g.V.Ground.tells c.args.volume.now → ComesLowest g.V.Ground c.args.volume.now c.args.rooms.now update done.oid)) (sym c.in-Create.is)
+    (c.create.ensures.lowest)
+
+pub returns-in-Change-clause-lowest : goal.returns-in-Change-clause-lowest
+returns-in-Change-clause-lowest g c = subst (λ (update : ObjectUpdate). IfOk c.change.result (λ (done : Done). g.V.Ground.tells c.args.volume.now → ComesLowest g.V.Ground c.args.volume.now c.args.rooms.now update done.oid)) (sym c.in-Change.is)
+    (any_value c.change.result _ (λ (done : Done) told. tt))
+
+pub returns-in-Remove-clause-lowest : goal.returns-in-Remove-clause-lowest
+returns-in-Remove-clause-lowest g c = subst (λ (update : ObjectUpdate). IfOk c.remove.result (λ (done : Done). g.V.Ground.tells c.args.volume.now → ComesLowest g.V.Ground c.args.volume.now c.args.rooms.now update done.oid)) (sym c.in-Remove.is)
+    (any_value c.remove.result _ (λ (done : Done) told. tt))
+
+pub returns-in-Copy-clause-lowest : goal.returns-in-Copy-clause-lowest
+returns-in-Copy-clause-lowest g c = subst (λ (update : ObjectUpdate). IfOk c.copy.result (λ (done : Done). g.V.Ground.tells c.args.volume.now → ComesLowest g.V.Ground c.args.volume.now c.args.rooms.now update done.oid)) (sym c.in-Copy.is)
+    (any_value c.copy.result _ (λ (done : Done) told. tt))
+
+pub returns-in-Drop-clause-lowest : goal.returns-in-Drop-clause-lowest
+returns-in-Drop-clause-lowest g c = subst (λ (update : ObjectUpdate). IfOk c.drop_frozen.result (λ (done : Done). g.V.Ground.tells c.args.volume.now → ComesLowest g.V.Ground c.args.volume.now c.args.rooms.now update done.oid)) (sym c.in-Drop.is)
+    (any_value c.drop_frozen.result _ (λ (done : Done) told. tt))
+
+pub returns-in-Create-clause-remembers : goal.returns-in-Create-clause-remembers
+returns-in-Create-clause-remembers g c = subst (λ (update : ObjectUpdate). IfOk c.create.result (λ (done : Done). g.V.Ground.tells c.args.volume.now → LeavesTrue g.V.Ground c.args.volume.now c.create.new.volume c.args.rooms.now c.create.new.rooms update)) (sym c.in-Create.is)
+    c.create.ensures.remembers
+
+pub returns-in-Change-clause-remembers : goal.returns-in-Change-clause-remembers
+returns-in-Change-clause-remembers g c = subst (λ (update : ObjectUpdate). IfOk c.change.result (λ (done : Done). g.V.Ground.tells c.args.volume.now → LeavesTrue g.V.Ground c.args.volume.now c.change.new.volume c.args.rooms.now c.change.new.rooms update)) (sym c.in-Change.is)
+    c.change.ensures.remembers
+
+pub returns-in-Remove-clause-remembers : goal.returns-in-Remove-clause-remembers
+returns-in-Remove-clause-remembers g c = subst (λ (update : ObjectUpdate). IfOk c.remove.result (λ (done : Done). g.V.Ground.tells c.args.volume.now → LeavesTrue g.V.Ground c.args.volume.now c.remove.new.volume c.args.rooms.now c.remove.new.rooms update)) (sym c.in-Remove.is)
+    (any_value c.remove.result _ (λ (done : Done) told. tt))
+
+pub returns-in-Copy-clause-remembers : goal.returns-in-Copy-clause-remembers
+returns-in-Copy-clause-remembers g c = subst (λ (update : ObjectUpdate). IfOk c.copy.result (λ (done : Done). g.V.Ground.tells c.args.volume.now → LeavesTrue g.V.Ground c.args.volume.now c.copy.new.volume c.args.rooms.now c.copy.new.rooms update)) (sym c.in-Copy.is)
+    (any_value c.copy.result _ (λ (done : Done) told. tt))
+
+pub returns-in-Drop-clause-remembers : goal.returns-in-Drop-clause-remembers
+returns-in-Drop-clause-remembers g c = subst (λ (update : ObjectUpdate). IfOk c.drop_frozen.result (λ (done : Done). g.V.Ground.tells c.args.volume.now → LeavesTrue g.V.Ground c.args.volume.now c.drop_frozen.new.volume c.args.rooms.now c.drop_frozen.new.rooms update)) (sym c.in-Drop.is)
+    (any_value c.drop_frozen.result _ (λ (done : Done) told. tt))

@@ -92,9 +92,9 @@ returns-in-Err-clause-damage g c =
     let s = session.the_view c.self.inside in
     let a = g.H.World.outside c.args.host.now in
     let b = g.H.World.outside c.release_roots.new.disk in
-    λ honest. subst (λ (t : SessionState). TellsDamage a b t no_version c.stopped.result) c.self.view_is
+    subst (λ (t : SessionState). TellsDamage a b t no_version c.stopped.result) c.self.view_is
     (giving_told a b s s.gained c.in-Err.fault c.stopped.result c.stopped.ensures c.release_roots.ensures.gives.only.nothing.disk (λ root has. of_gained has)
-    (subst (λ (roots : List Root). IsGivingFault s.geometry a s.groups roots c.in-Err.fault) c.deref.ensures.value c.in-Err.ensures.fault) honest)
+    (subst (λ (roots : List Root). IsGivingFault s.geometry a s.groups roots c.in-Err.fault) c.deref.ensures.value c.in-Err.ensures.fault))
 
 pub release_roots-requires-clause-ready : goal.release_roots-requires-clause-ready
 release_roots-requires-clause-ready g c =

@@ -57,8 +57,8 @@ returns-in-Err-clause-damage g c =
     let a = g.H.World.outside c.args.host.now in
     let b = g.H.World.outside c.release_here.new.disk in
     let there = subst (λ (t : SessionState). c.args.index < length t.scans) (sym c.self.view_is) c.requires.there in
-    λ honest. subst (λ (t : SessionState). TellsDamage a b t no_version c.stopped.result) c.self.view_is
-    (giving_told a b s _ c.in-Err.fault c.stopped.result c.stopped.ensures c.release_here.ensures.gives.only.nothing.disk (scan_held s c.args.index there c.root_at-root.result c.root_at-root.ensures) c.in-Err.ensures.fault honest)
+    subst (λ (t : SessionState). TellsDamage a b t no_version c.stopped.result) c.self.view_is
+    (giving_told a b s _ c.in-Err.fault c.stopped.result c.stopped.ensures c.release_here.ensures.gives.only.nothing.disk (scan_held s c.args.index there c.root_at-root.result c.root_at-root.ensures) c.in-Err.ensures.fault)
 
 pub release_here-requires-clause-ready : goal.release_here-requires-clause-ready
 release_here-requires-clause-ready g c =

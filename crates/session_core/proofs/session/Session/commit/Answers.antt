@@ -8,7 +8,7 @@ use Rattle.ex_base.specs.declared.names.Root.{Root}
 use Rattle.ex_base.specs.Sizes.{volume_bytes}
 use Rattle.ex_base.proofs.Results.{if_no_error}
 use Rattle.disk_model.specs.Outside.{Outside, ReadsOnly}
-use Rattle.disk_model.specs.Runs.{honest_on, reads_refl, reads_trans}
+use Rattle.disk_model.specs.Runs.{reads_refl, reads_trans}
 use Rattle.buffer_groups.specs.Frames.{Frames}
 use Rattle.op_log.specs.Records.{IsNote}
 use Rattle.meta_pages.specs.Overlays.{Overlays}
@@ -413,10 +413,10 @@ returns-clause-exact g c before from now opened_there =
 -- ---- what it tells of a damaged page
 
 pub returns-in-Err-clause-damage : goal.returns-in-Err-clause-damage
-returns-in-Err-clause-damage g c = λ honest. catalog_told (g.H.World.outside c.args.host.now) (g.H.World.outside c.catalog.new.disk) c.args.self.now no_version c.in-Err.stop c.in-Err.ensures.stops
+returns-in-Err-clause-damage g c = catalog_told (g.H.World.outside c.args.host.now) (g.H.World.outside c.catalog.new.disk) c.args.self.now no_version c.in-Err.stop c.in-Err.ensures.stops
 
 pub returns-in_default-clause-damage : goal.returns-in_default-clause-damage
-returns-in_default-clause-damage g c = λ honest.
+returns-in_default-clause-damage g c =
     spent_told (g.H.World.outside c.args.host.now) (g.H.World.outside c.catalog.new.disk) c.args.self.now c.in-Ok.page.items c.in-Ok.ensures.read (c.number_next.ensures.none c.in_default.is)
 
 pub returns-in-Err-release_roots-clause-damage : goal.returns-in-Err-release_roots-clause-damage
@@ -424,13 +424,13 @@ returns-in-Err-release_roots-clause-damage g c =
     let i = g.H.World.outside c.catalog.new.disk in
     let m = g.H.World.outside c.release_roots.new.disk in
     let two = session.the_view c.self-2.inside in
-    λ honest. later_damage c.args.self.now c.catalog.new.self c.catalog.ensures.frames m no_version c.stopped.result
+    later_damage c.args.self.now c.catalog.new.self c.catalog.ensures.frames m no_version c.stopped.result
     (subst (λ (t : SessionState). TellsDamage i m t no_version c.stopped.result) c.self-2.view_is
     (giving_told i m two two.lost c.in-Err-release_roots.fault c.stopped.result c.stopped.ensures c.release_roots.ensures.gives.only.nothing.disk (λ root has. of_lost has)
-    (subst (λ (roots : List Root). IsGivingFault two.geometry i two.groups roots c.in-Err-release_roots.fault) c.deref.ensures.value c.in-Err-release_roots.ensures.fault) (honest_on c.catalog.ensures.frames.reads.nothing.only.goes honest)))
+    (subst (λ (roots : List Root). IsGivingFault two.geometry i two.groups roots c.in-Err-release_roots.fault) c.deref.ensures.value c.in-Err-release_roots.ensures.fault)))
 
 pub returns-in-Err-commit-clause-damage : goal.returns-in-Err-commit-clause-damage
-returns-in-Err-commit-clause-damage g c = λ honest. uncommitted_told (g.H.World.outside c.args.host.now) _ c.args.self.now no_version c.in-Err-commit.fault c.uncommitted.result c.uncommitted.ensures
+returns-in-Err-commit-clause-damage g c = uncommitted_told (g.H.World.outside c.args.host.now) _ c.args.self.now no_version c.in-Err-commit.fault c.uncommitted.result c.uncommitted.ensures
 
 -- ---- where it writes
 

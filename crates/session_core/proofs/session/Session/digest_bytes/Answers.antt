@@ -1,17 +1,26 @@
-use Rattle.std.proofs.Common.{refl, rules}
+use Rattle.std.proofs.Common.{◌≡◌, ◌+◌, ◌≤◌, ℕ, List, arith, refl, rules, subst}
 use Rattle.std.proofs.lemmas.Result.{IfErr-weaker, IfOk-weaker}
 use Rattle.session_core.proofs.Digests.{of_all}
 use Rattle.session_core.specs.contracts.session.Session as session
 use Rattle.session_core.proofs.Finding.{frames_left, frames_to, held_version, no_damage, only_reads, over_session, port_shows, read_session, reads_live, told_err, told_ok}
 use Rattle.session_core.proofs.Damage.{damage_told}
-use Rattle.session_core.specs.Damage.{the_version}
+use Rattle.session_core.specs.Damage.{version_for}
+use Rattle.volume_edits.specs.Purposes.{ToRead}
+use Rattle.versions.proofs.Faults.{read_version}
 use Rattle.volume_edits.proofs.Damage.{told_version}
 use Rattle.volume_edits.specs.Damage.{as_it_is}
 use Rattle.session_core.proofs.Sessions.{main_read, seen}
 use Rattle.std.specs.Prelude.{◌<◌}
 use Rattle.versions.specs.Damage.{IsFoundAnd, IsReadThrough}
 use Rattle.session_core.proofs.Ways.{way_passed}
+use Rattle.ex_base.specs.declared.geometry.Geometry.{Geometry}
+use Rattle.ex_base.specs.declared.names.Oid.{Oid}
+use Rattle.versions.specs.Damage.{IsThereAnd}
 use Rattle.session_core.proofs.session.Session.digest_bytes.Goals as goal
+
+-- what isn't there with all bytes from the first one on isn't there with so many
+of_whole : (g : Geometry) (image : ℕ → List ℕ) (oid : Oid) (n : ℕ) → (IsThereAnd g image oid (λ found. 0 + n ≤ found.size) → ⊥) → (IsThereAnd g image oid (λ found. n ≤ found.size) → ⊥)
+of_whole g image oid n lacks = subst (λ (m : ℕ). IsThereAnd g image oid (λ found. m ≤ found.size) → ⊥) (let same : 0 + n ≡ n = omega arith in same) lacks
 
 pub invariant_of-self : goal.invariant_of-self
 invariant_of-self g c = read_session (session.the_view c.self.inside) _ (frames_left c.digest_at.ensures.kept.leads) c.self.invariant
@@ -42,8 +51,9 @@ pub returns-clause-damage : goal.returns-clause-damage
 returns-clause-damage g c =
     let w = g.D.World.outside c.args.disk.now in
     let over = over_session c.digest_at.ensures.kept w c.self.view_is c.self.invariant refl refl refl refl (λ h. h) in
-    damage_told _ _ _ (the_version c.args.oid.now) c.digest_at.result c.or_stop.result c.or_stop.ensures over
-    (IfErr-weaker c.digest_at.result _ _ (λ fault is told. as_it_is (told_version _ _ _ _ (the_version c.args.oid.now) c.args.oid.now fault refl (is told))) c.digest_at.ensures.fault)
+    let purpose = ToRead c.args.size in
+    damage_told _ _ _ (version_for c.args.oid.now purpose) c.digest_at.result c.or_stop.result c.or_stop.ensures over
+    (IfErr-weaker c.digest_at.result _ _ (λ fault is told. as_it_is (told_version _ _ _ _ (version_for c.args.oid.now purpose) c.args.oid.now purpose fault (refl, refl) (of_whole _ _ c.args.oid.now c.args.size) (read_version _ _ _ c.args.oid.now 0 c.args.size fault (is told)))) c.digest_at.ensures.fault)
 
 pub digest_at-requires-clause-ready : goal.digest_at-requires-clause-ready
 digest_at-requires-clause-ready g c = main_read (session.the_view c.self.inside) c.args.self.now (g.D.World.outside c.args.disk.now).size c.self.view_is c.self.invariant c.requires.room

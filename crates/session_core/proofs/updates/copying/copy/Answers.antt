@@ -1,4 +1,4 @@
-use Rattle.std.proofs.Common.{◌≡◌, ◌∙◌, ℕ, List, None, sym, subst, refl, ◌+◌, ◌≤◌, inl}
+use Rattle.std.proofs.Common.{◌≡◌, ◌∙◌, ap, ℕ, List, None, sym, subst, refl, ◌+◌, ◌≤◌, inl}
 use Rattle.std.specs.Prelude.{Ok, Err}
 use Rattle.ex_base.specs.declared.names.Place.{Place}
 use Rattle.ex_base.specs.Ports.{IsDamage, Cause}
@@ -8,11 +8,11 @@ use Rattle.std.proofs.lemmas.Result.{IfErr-at_err, IfErr-weaker, IfOk-at_ok, err
 use Rattle.ex_base.proofs.Results.{from_ok}
 use Rattle.session_core.specs.declared.updates.copying.Copying.{Copying}
 use Rattle.session_core.specs.declared.updates.copying.Copying.TheVariants as copying
-use Rattle.session_core.specs.Performed.{copies}
+use Rattle.session_core.specs.Performed.{copies, to_copy}
 use Rattle.session_core.specs.Performed.{Updates}
-use Rattle.session_core.proofs.Copied.{copy_taken, derive_failed, derived_made, freeze_failed, frozen_made, uncounted, unfiled}
+use Rattle.session_core.proofs.Copied.{copy_taken, derive_failed, derived_made, filed_later, freeze_failed, frozen_made, uncopied_off, uncounted, unfiled}
 use Rattle.session_core.proofs.Followed.{still_taken, still_updated, copied_few, still_done, still_touches, touches_on}
-use Rattle.file_rooms.specs.Rooms.{ChangesOne}
+use Rattle.file_rooms.specs.Rooms.{ChangesOne, Remembered}
 use Rattle.volume_edits.specs.Damage.{ports_own}
 use Rattle.versions.proofs.Results.{ok_of}
 use Rattle.volume_edits.proofs.UnitsTaken.{pages_taken}
@@ -21,7 +21,7 @@ use Rattle.ex_base.proofs.Results.{if_err_handed}
 use Rattle.version_tree.specs.Links.{IsStartFault}
 use Rattle.volume_edits.specs.Damage.{as_it_is}
 use Rattle.volume_edits.proofs.Damage.{after_count, after_reading, told_catalog, told_derive, told_freeze, told_start}
-use Rattle.session_core.specs.Damage.{IsFaultIn, the_version}
+use Rattle.session_core.specs.Damage.{IsFaultIn, version_for}
 use Rattle.ex_base.specs.declared.names.Area.{Area}
 use Rattle.ex_base.specs.declared.names.Area.TheVariants.{Page}
 use Rattle.ex_base.proofs.Handed.{cause_after, cause_of, handed_after}
@@ -47,7 +47,7 @@ returns-in_err-file_of-clause-updates g c =
 pub returns-in-Ok-clause-updates : goal.returns-in-Ok-clause-updates
 returns-in-Ok-clause-updates g c =
     let mid = c.count_number.new.volume in
-    let room = c.of_copy-asked.ensures.file in
+    let room = c.of_copy-room.ensures.file in
     let filed = subst (λ (place : Place). g.V.Ground.tells mid → (index : Index) (body : List ℕ) → HasBody g.V.Ground mid index place body → index.file_no ≡ c.in_ok-file_of.field-0) c.place_of.ensures c.in_ok-file_of.ensures.number in
     still_updated g.V.Ground c.args.volume.now c.match-copying.volume c.look_at.new.volume c.look_at.ensures.kept (copies c.args.copying c.args.oid.now c.args.unique) (record { oid = c.in-Ok.made.oid; gone = None; come = c.in-Ok.made.come }) c.look_at.result (elim c.match-copying.branch [
       | in-Freeze w ↦
@@ -55,34 +55,34 @@ returns-in-Ok-clause-updates g c =
           let told = w.freeze-copied.ensures in
           subst (λ (k : Copying). Updates g.V.Ground c.args.volume.now c.match-copying.volume (copies k c.args.oid.now c.args.unique) (Ok (record { oid = c.in-Ok.made.oid; gone = None; come = c.in-Ok.made.come }))) (sym w.in-Freeze.is)
           (subst (λ volume. Updates g.V.Ground c.args.volume.now volume (copies copying.Freeze c.args.oid.now c.args.unique) (Ok (record { oid = c.in-Ok.made.oid; gone = None; come = c.in-Ok.made.come }))) (sym w.volume-is)
-          (frozen_made g.V.Ground c.args.volume.now w.freeze-copied.new.volume c.args.oid.now c.args.unique mid c.file_of.new.volume c.count_number.ensures.leads c.in_ok-count_number.ensures.counts c.file_of.ensures.kept c.in_ok-file_of.field-0 c.of_copy-asked.result.file_no room filed
+          (frozen_made g.V.Ground c.args.volume.now w.freeze-copied.new.volume c.args.oid.now c.args.unique mid c.file_of.new.volume c.count_number.ensures.leads c.in_ok-count_number.ensures.counts c.file_of.ensures.kept c.in_ok-file_of.field-0 c.of_copy-room.result.file_no room filed
           c.in-Ok.made (IfOk-at_ok _ did told.number) told.leads (from_ok w.freeze-copied.result c.in-Ok.made _ did told.takes) (IfOk-at_ok _ did told.come) (IfOk-at_ok _ did told.frozen)))
       | in-Derive w ↦
           let did : w.derive-copied.result ≡ Ok c.in-Ok.made = sym w.copied-is ∙ c.in-Ok.is in
           let told = w.derive-copied.ensures in
           subst (λ (k : Copying). Updates g.V.Ground c.args.volume.now c.match-copying.volume (copies k c.args.oid.now c.args.unique) (Ok (record { oid = c.in-Ok.made.oid; gone = None; come = c.in-Ok.made.come }))) (sym w.in-Derive.is)
           (subst (λ volume. Updates g.V.Ground c.args.volume.now volume (copies copying.Derive c.args.oid.now c.args.unique) (Ok (record { oid = c.in-Ok.made.oid; gone = None; come = c.in-Ok.made.come }))) (sym w.volume-is)
-          (derived_made g.V.Ground c.args.volume.now w.derive-copied.new.volume c.args.oid.now c.args.unique mid c.file_of.new.volume c.count_number.ensures.leads c.in_ok-count_number.ensures.counts c.file_of.ensures.kept c.in_ok-file_of.field-0 c.of_copy-asked.result.file_no room filed
+          (derived_made g.V.Ground c.args.volume.now w.derive-copied.new.volume c.args.oid.now c.args.unique mid c.file_of.new.volume c.count_number.ensures.leads c.in_ok-count_number.ensures.counts c.file_of.ensures.kept c.in_ok-file_of.field-0 c.of_copy-room.result.file_no room filed
           c.in-Ok.made (IfOk-at_ok _ did told.number) told.leads (from_ok w.derive-copied.result c.in-Ok.made _ did told.takes) (IfOk-at_ok _ did told.come) (IfOk-at_ok _ did told.derived)))
     ]) c.look_at.ensures.same c.look_at.ensures.no_damage
 
 pub returns-in-Err-clause-updates : goal.returns-in-Err-clause-updates
 returns-in-Err-clause-updates g c =
     let mid = c.count_number.new.volume in
-    let room = c.of_copy-asked.ensures.file in
+    let room = c.of_copy-room.ensures.file in
     let filed = subst (λ (place : Place). g.V.Ground.tells mid → (index : Index) (body : List ℕ) → HasBody g.V.Ground mid index place body → index.file_no ≡ c.in_ok-file_of.field-0) c.place_of.ensures c.in_ok-file_of.ensures.number in
     elim c.match-copying.branch [
       | in-Freeze w ↦
           let failed : w.freeze-copied.result ≡ Err c.in-Err.fault = sym w.copied-is ∙ c.in-Err.is in
           subst (λ (k : Copying). Updates g.V.Ground c.args.volume.now c.match-copying.volume (copies k c.args.oid.now c.args.unique) (Err c.in-Err.fault)) (sym w.in-Freeze.is)
           (subst (λ volume. Updates g.V.Ground c.args.volume.now volume (copies copying.Freeze c.args.oid.now c.args.unique) (Err c.in-Err.fault)) (sym w.volume-is)
-          (freeze_failed g.V.Ground c.args.volume.now w.freeze-copied.new.volume c.args.oid.now c.args.unique mid c.file_of.new.volume c.count_number.ensures.leads c.in_ok-count_number.ensures.counts c.file_of.ensures.kept c.in_ok-file_of.field-0 c.of_copy-asked.result.file_no room filed
+          (freeze_failed g.V.Ground c.args.volume.now w.freeze-copied.new.volume c.args.oid.now c.args.unique mid c.file_of.new.volume c.count_number.ensures.leads c.in_ok-count_number.ensures.counts c.file_of.ensures.kept c.in_ok-file_of.field-0 c.of_copy-room.result.file_no room filed
           c.in-Err.fault (IfErr-at_err _ failed w.freeze-copied.ensures.sound)))
       | in-Derive w ↦
           let failed : w.derive-copied.result ≡ Err c.in-Err.fault = sym w.copied-is ∙ c.in-Err.is in
           subst (λ (k : Copying). Updates g.V.Ground c.args.volume.now c.match-copying.volume (copies k c.args.oid.now c.args.unique) (Err c.in-Err.fault)) (sym w.in-Derive.is)
           (subst (λ volume. Updates g.V.Ground c.args.volume.now volume (copies copying.Derive c.args.oid.now c.args.unique) (Err c.in-Err.fault)) (sym w.volume-is)
-          (derive_failed g.V.Ground c.args.volume.now w.derive-copied.new.volume c.args.oid.now c.args.unique mid c.file_of.new.volume c.count_number.ensures.leads c.in_ok-count_number.ensures.counts c.file_of.ensures.kept c.in_ok-file_of.field-0 c.of_copy-asked.result.file_no room filed
+          (derive_failed g.V.Ground c.args.volume.now w.derive-copied.new.volume c.args.oid.now c.args.unique mid c.file_of.new.volume c.count_number.ensures.leads c.in_ok-count_number.ensures.counts c.file_of.ensures.kept c.in_ok-file_of.field-0 c.of_copy-room.result.file_no room filed
           c.in-Err.fault (IfErr-at_err _ failed w.derive-copied.ensures.sound)))
     ]
 
@@ -110,22 +110,23 @@ returns-in-Ok-clause-takes g c =
     ])
 
 pub returns-in-Ok-clause-rooms : goal.returns-in-Ok-clause-rooms
-returns-in-Ok-clause-rooms g c = subst (ChangesOne c.args.rooms.now) (sym c.look_at.ensures.rooms) c.keep_copy.ensures
+returns-in-Ok-clause-rooms g c = subst (ChangesOne c.args.rooms.now.rooms) (sym c.look_at.ensures.rooms) (inl (ap (λ (known : Remembered). known.rooms) c.keep_copy.ensures.others))
 
 pub returns-in-Ok-clause-fault : goal.returns-in-Ok-clause-fault
-returns-in-Ok-clause-fault g c = IfErr-weaker c.look_at.result _ (IsFaultIn g.V.Ground c.args.volume.now (the_version c.args.oid.now)) (λ fault never told. as_it_is (ports_own never)) c.look_at.ensures.no_damage
+returns-in-Ok-clause-fault g c = IfErr-weaker c.look_at.result _ (IsFaultIn g.V.Ground c.args.volume.now (version_for c.args.oid.now (to_copy c.args.copying))) (λ fault never told. as_it_is (ports_own never)) c.look_at.ensures.no_damage
 
 pub returns-in_err-count_number-clause-fault : goal.returns-in_err-count_number-clause-fault
 returns-in_err-count_number-clause-fault g c = if_err_handed c.from_residual.result _ _ c.from_residual.ensures.1
-    (λ told. as_it_is (told_catalog _ _ _ _ (the_version c.args.oid.now) _ (c.in_err-count_number.ensures.fault told)))
+    (λ told. as_it_is (told_catalog _ _ _ _ (version_for c.args.oid.now (to_copy c.args.copying)) _ (c.in_err-count_number.ensures.fault told)))
 
 pub returns-in_err-file_of-clause-fault : goal.returns-in_err-file_of-clause-fault
 returns-in_err-file_of-clause-fault g c = if_err_handed c.from_residual-in_err-file_of.result _ _ c.from_residual-in_err-file_of.ensures.1 (λ told.
     let mid = c.count_number.new.volume in
     let G = g.V.Ground in
     let fault = c.in_err-file_of.field-0.0 in
-    after_count G (the_version c.args.oid.now) fault c.args.volume.now mid _ (c.in_ok-count_number.ensures.counts told)
-    (told_start _ _ _ _ (the_version c.args.oid.now) c.args.oid.now fault refl
+    let own = version_for c.args.oid.now (to_copy c.args.copying) in
+    after_count G own fault c.args.volume.now mid _ (c.in_ok-count_number.ensures.counts told)
+    (told_start _ _ _ _ own c.args.oid.now (to_copy c.args.copying) fault (refl, refl) (uncopied_off _ _ _ c.args.oid.now c.args.copying)
     (subst (λ (place : Place). IsStartFault (G.geometry mid) (G.image mid) place fault) c.place_of.ensures (c.in_err-file_of.ensures.fault (G.leads_told c.args.volume.now mid c.count_number.ensures.leads told)))))
 
 pub returns-in-Err-clause-fault : goal.returns-in-Err-clause-fault
@@ -134,13 +135,17 @@ returns-in-Err-clause-fault g c = λ told.
     let later = c.file_of.new.volume in
     let G = g.V.Ground in
     let fault = c.in-Err.fault in
-    let own = the_version c.args.oid.now in
+    let own = version_for c.args.oid.now (to_copy c.args.copying) in
+    let room = c.of_copy-room.ensures.file in
+    let filed = filed_later G mid later c.file_of.ensures.kept c.args.oid.now c.in_ok-file_of.field-0 c.of_copy-room.result.file_no room
+    (subst (λ (place : Place). G.tells mid → (index : Index) (body : List ℕ) → HasBody G mid index place body → index.file_no ≡ c.in_ok-file_of.field-0) c.place_of.ensures c.in_ok-file_of.ensures.number
+    (G.leads_told c.args.volume.now mid c.count_number.ensures.leads told)) in
     let there = G.leads_told mid later c.file_of.ensures.kept.leads (G.leads_told c.args.volume.now mid c.count_number.ensures.leads told) in
     after_count G own fault c.args.volume.now mid _ (c.in_ok-count_number.ensures.counts told)
     (after_reading G own fault mid later c.file_of.ensures.kept
     (elim c.match-copying.branch [
-      | in-Freeze w ↦ told_freeze _ _ own _ c.args.oid.now fault refl (IfErr-at_err _ (sym w.copied-is ∙ c.in-Err.is) w.freeze-copied.ensures.fault there)
-      | in-Derive w ↦ told_derive _ _ own _ c.args.oid.now fault refl (IfErr-at_err _ (sym w.copied-is ∙ c.in-Err.is) w.derive-copied.ensures.fault there)
+      | in-Freeze w ↦ told_freeze _ _ own _ c.args.oid.now fault (refl, ap to_copy (sym w.in-Freeze.is)) filed (IfErr-at_err _ (sym w.copied-is ∙ c.in-Err.is) w.freeze-copied.ensures.fault there)
+      | in-Derive w ↦ told_derive _ _ own _ c.args.oid.now fault (refl, ap to_copy (sym w.in-Derive.is)) filed (IfErr-at_err _ (sym w.copied-is ∙ c.in-Err.is) w.derive-copied.ensures.fault there)
     ]))
 
 -- ---- what else is asked and promised
@@ -236,17 +241,17 @@ returns-in-Ok-clause-shaped g c =
     let unique = c.args.unique in
     let made = c.in-Ok.made in
     let mid = c.count_number.new.volume in
-    let room = c.of_copy-asked.ensures.file in
+    let room = c.of_copy-room.ensures.file in
     let filed = subst (λ (place : Place). G.tells mid → (index : Index) (body : List ℕ) → HasBody G mid index place body → index.file_no ≡ c.in_ok-file_of.field-0) c.place_of.ensures c.in_ok-file_of.ensures.number in
     still_shaped G old c.match-copying.volume c.look_at.new.volume c.look_at.ensures.kept (copies c.args.copying oid unique) (record { oid = made.oid; gone = None; come = made.come }) c.look_at.result (elim c.match-copying.branch [
       | in-Freeze w ↦
           subst (λ (k : Copying). LeavesShaped G old c.match-copying.volume (copies k oid unique) made.oid) (sym w.in-Freeze.is)
           (subst (λ volume. LeavesShaped G old volume (copies copying.Freeze oid unique) made.oid) (sym w.volume-is)
-          (frozen_shaped G old w.freeze-copied.new.volume oid unique mid c.file_of.new.volume c.count_number.ensures.leads c.in_ok-count_number.ensures.counts c.file_of.ensures.kept c.in_ok-file_of.field-0 c.of_copy-asked.result.file_no room filed
+          (frozen_shaped G old w.freeze-copied.new.volume oid unique mid c.file_of.new.volume c.count_number.ensures.leads c.in_ok-count_number.ensures.counts c.file_of.ensures.kept c.in_ok-file_of.field-0 c.of_copy-room.result.file_no room filed
           made.oid (IfOk-at_ok _ (sym w.copied-is ∙ c.in-Ok.is) w.freeze-copied.ensures.frozen)))
       | in-Derive w ↦
           subst (λ (k : Copying). LeavesShaped G old c.match-copying.volume (copies k oid unique) made.oid) (sym w.in-Derive.is)
           (subst (λ volume. LeavesShaped G old volume (copies copying.Derive oid unique) made.oid) (sym w.volume-is)
-          (derived_shaped G old w.derive-copied.new.volume oid unique mid c.file_of.new.volume c.count_number.ensures.leads c.in_ok-count_number.ensures.counts c.file_of.ensures.kept c.in_ok-file_of.field-0 c.of_copy-asked.result.file_no room filed
+          (derived_shaped G old w.derive-copied.new.volume oid unique mid c.file_of.new.volume c.count_number.ensures.leads c.in_ok-count_number.ensures.counts c.file_of.ensures.kept c.in_ok-file_of.field-0 c.of_copy-room.result.file_no room filed
           made.oid (IfOk-at_ok _ (sym w.copied-is ∙ c.in-Ok.is) w.derive-copied.ensures.derived)))
     ]) c.look_at.ensures.same

@@ -1,4 +1,4 @@
-use Rattle.std.proofs.Common.{None, sym, subst, ◌∙◌, ◌≡◌, ◌+◌, ◌≤◌, ℕ, inl, refl}
+use Rattle.std.proofs.Common.{None, nat_lt, sym, subst, ◌∙◌, ◌≡◌, ◌+◌, ◌≤◌, ℕ, inl, refl}
 use Rattle.std.proofs.lemmas.Result.{err_from_is_err_and}
 use Rattle.volume_edits.specs.Ported.{index_named}
 use Rattle.volume_edits.proofs.Contents.{has_catalog}
@@ -6,13 +6,18 @@ use Rattle.volume_edits.proofs.Making.{becomes, its_file}
 use Rattle.session_core.proofs.Followed.{still_taken, still_updated, created_few, still_done, still_touches, touches_on}
 use Rattle.volume_edits.specs.TableUpdates.{Makes}
 use Rattle.versions.proofs.Results.{ok_of}
-use Rattle.std.proofs.lemmas.Result.{IfErr-weaker}
+use Rattle.std.proofs.lemmas.Result.{IfErr-weaker, IfOk-weaker}
 use Rattle.volume_edits.proofs.UnitsTaken.{pages_taken}
 use Rattle.ex_base.proofs.Results.{if_err_handed}
 use Rattle.volume_edits.specs.Damage.{as_it_is, of_placing, ports_own}
 use Rattle.volume_edits.proofs.Damage.{after_count, told_catalog}
 use Rattle.session_core.specs.Damage.{IsFaultIn, no_version}
-use Rattle.file_rooms.specs.Rooms.{ChangesOne}
+use Rattle.volume_edits.specs.Purposes.{anyhow}
+use Rattle.file_rooms.specs.Rooms.{ChangesOne, IsLookedFrom}
+use Rattle.session_core.specs.Roomy.{IsPutLowest}
+use Rattle.session_core.proofs.Lowest.{put_lowest}
+use Rattle.session_core.proofs.Remembering.{made_true, not_grown}
+use Rattle.file_rooms.proofs.Kept.{kept_one}
 use Rattle.ex_base.specs.declared.names.Area.{Area}
 use Rattle.ex_base.specs.declared.names.Area.TheVariants.{Page}
 use Rattle.ex_base.proofs.Handed.{cause_after, cause_of}
@@ -56,7 +61,7 @@ returns-in-Err-clause-updates g c = λ name.
     }
 
 pub returns-in-Ok-clause-rooms : goal.returns-in-Ok-clause-rooms
-returns-in-Ok-clause-rooms g c = subst (ChangesOne c.args.rooms.now) (sym c.look_at.ensures.rooms) c.keep.ensures
+returns-in-Ok-clause-rooms g c = subst (ChangesOne c.args.rooms.now.rooms) (sym c.look_at.ensures.rooms) (kept_one c.args.rooms.now c.keep.new.self c.of_file-asked.result c.in-Ok.oid.page.0 _ c.keep.ensures)
 
 pub returns-in-Ok-clause-takes : goal.returns-in-Ok-clause-takes
 returns-in-Ok-clause-takes g c = λ name. ok_of c.look_at.result _
@@ -64,16 +69,16 @@ returns-in-Ok-clause-takes g c = λ name. ok_of c.look_at.result _
     (pages_taken g.V.Ground c.args.volume.now c.count_number.new.volume c.create.new.volume c.in_ok-count_number.ensures.free c.in-Ok.ensures.pages c.in-Ok.ensures.leaves))
 
 pub returns-in-Ok-clause-fault : goal.returns-in-Ok-clause-fault
-returns-in-Ok-clause-fault g c = IfErr-weaker c.look_at.result _ (IsFaultIn g.V.Ground c.args.volume.now no_version) (λ fault never told. as_it_is (ports_own never)) c.look_at.ensures.no_damage
+returns-in-Ok-clause-fault g c = IfErr-weaker c.look_at.result _ (IsFaultIn g.V.Ground c.args.volume.now (anyhow no_version)) (λ fault never told. as_it_is (ports_own never)) c.look_at.ensures.no_damage
 
 pub returns-in_err-count_number-clause-fault : goal.returns-in_err-count_number-clause-fault
 returns-in_err-count_number-clause-fault g c = if_err_handed c.from_residual.result _ _ c.from_residual.ensures.1
-    (λ told. as_it_is (told_catalog _ _ _ _ no_version _ (c.in_err-count_number.ensures.fault told)))
+    (λ told. as_it_is (told_catalog _ _ _ _ (anyhow no_version) _ (c.in_err-count_number.ensures.fault told)))
 
 pub returns-in-Err-clause-fault : goal.returns-in-Err-clause-fault
 returns-in-Err-clause-fault g c = λ told.
     let mid = c.count_number.new.volume in
-    after_count g.V.Ground no_version c.in-Err.fault c.args.volume.now mid _ (c.in_ok-count_number.ensures.counts told)
+    after_count g.V.Ground (anyhow no_version) c.in-Err.fault c.args.volume.now mid _ (c.in_ok-count_number.ensures.counts told)
     (of_placing c.of_file-asked.result.file_no _ (c.in-Err.ensures.fault (g.V.Ground.leads_told c.args.volume.now mid c.count_number.ensures.leads told)))
 
 -- ---- what else is asked and promised
@@ -121,3 +126,33 @@ returns-in-Ok-clause-shaped g c = λ name.
     object_shaped G mid new (index_named asks.entry) c.in-Ok.oid
     (c.in-Ok.ensures.anywhere (G.leads_told old mid c.count_number.ensures.leads told) (index_named asks.entry)
     (its_file G old mid records v vol name c.args.file_no c.args.unique asks (c.in_ok-count_number.ensures.counts told)) (asks.number ∙ sym c.of_file-asked.ensures.file))) c.look_at.ensures.same
+
+pub returns-in-Ok-clause-lowest : goal.returns-in-Ok-clause-lowest
+returns-in-Ok-clause-lowest g c =
+    let G = g.V.Ground in
+    let old = c.args.volume.now in
+    let mid = c.count_number.new.volume in
+    still_done c.look_at.result _ (λ (done : Done). G.tells old → IsPutLowest G old c.args.rooms.now c.args.file_no done.oid) (λ told index file number are.
+    put_lowest G old mid index (c.args.unique + 1) told file (c.in_ok-count_number.ensures.counts told) c.create.new.volume c.args.rooms.now c.of_file-asked.result c.in-Ok.oid are
+    (subst (λ (n : ℕ). IsLookedFrom c.args.rooms.now n c.of_file-asked.result) (sym number) c.of_file-asked.ensures.looked)
+    (λ here. c.in-Ok.ensures.created (G.leads_told old mid c.count_number.ensures.leads told) index here (number ∙ sym c.of_file-asked.ensures.file))) c.look_at.ensures.same
+
+pub returns-in-Err-clause-lowest : goal.returns-in-Err-clause-lowest
+returns-in-Err-clause-lowest g c = tt
+
+pub returns-in-Err-clause-remembers : goal.returns-in-Err-clause-remembers
+returns-in-Err-clause-remembers g c = tt
+
+pub returns-in-Ok-clause-remembers : goal.returns-in-Ok-clause-remembers
+returns-in-Ok-clause-remembers g c =
+    let G = g.V.Ground in
+    let old = c.args.volume.now in
+    let mid = c.count_number.new.volume in
+    let new = c.create.new.volume in
+    IfOk-weaker c.look_at.result _ _ (λ done looked told index file number whole are.
+    made_true G old mid (c.args.unique + 1) told whole (c.in_ok-count_number.ensures.counts told) new c.look_at.new.volume index c.args.rooms.now c.keep.new.self c.look_at.new.self c.of_file-asked.result c.in-Ok.oid
+    (nat_lt c.free.result c.free-free.result) file are
+    (subst (λ (n : ℕ). IsLookedFrom c.args.rooms.now n c.of_file-asked.result) (sym number) c.of_file-asked.ensures.looked)
+    (λ here. c.in-Ok.ensures.created (G.leads_told old mid c.count_number.ensures.leads told) index here (number ∙ sym c.of_file-asked.ensures.file))
+    (λ held. not_grown (G.free mid) (G.free new) c.free-free.result c.free.result (nat_lt c.free.result c.free-free.result) c.free-free.ensures c.free.ensures refl (c.in-Ok.ensures.grows held))
+    c.keep.ensures (looked (G.leads_told mid new c.create.ensures.leads (G.leads_told old mid c.count_number.ensures.leads told))) c.look_at.ensures.kept) c.look_at.ensures.looked
