@@ -57,7 +57,7 @@ pub record EndKeeps (old new : SessionState) (a b : Outside) (r : Request) (resu
 -- What is told of a damaged page, where the disk tells its bytes, and the frames lend those of their pages.
 pub record DamageKept (old : SessionState) (a b : Outside) (r : Request) (result : Result Reply Stop) : Type 0 where
   -- It is told by a look at the session's volume, for the version that the command names, or on the way down from a root that the session holds. To a
-  -- command that commits, changes objects or gives trees up it is so of an honest disk.
+  -- command that changes objects it is so of an honest disk.
   pub stands : (page : PageNo) (want got : Seen) → result ≡ Err (stop.Damaged page want got) → IsHonestTo r a → TellsBytes a old.groups
       → IsSessionDamage a b old (names_version old r) page want got
   -- To a command that asks of no objects and gives no tree up, only a catalog that is outside of its grammar is damaged.

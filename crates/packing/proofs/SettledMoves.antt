@@ -173,7 +173,7 @@ module _ {w x : Outside} (old mid : VolumeState) (d : Decoded) (disk : List ℕ)
       disk = later;
       logged = catalog_no ∷ file_pages now;
       others = root_pages (roots_in (stored_in now));
-      told = working.told;
+      told = (working.told.1, working.told.2);
       holds = working.holds;
       listed = listed;
       whole = (work.whole, tt);

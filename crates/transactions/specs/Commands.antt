@@ -1,5 +1,5 @@
 -- What a step on any command promises.
-use Rattle.std.specs.Prelude.{⊤, ◌≡◌, ◌&&◌, Bool, true, false, not, Result, IfOk, IfErr, IsTrue}
+use Rattle.std.specs.Prelude.{⊤, ◌≡◌, Bool, true, false, Result, IfOk, IfErr, IsTrue}
 use Rattle.disk_model.specs.Outside.{Outside, DiskOnly, Leaves, ReadsOnly}
 use Rattle.table_model.specs.declared.reply.Reply.{Reply}
 use Rattle.table_model.specs.Requests.{Request}
@@ -9,7 +9,7 @@ use Rattle.session_views.specs.View.{View, ShowsNow, Stepped, StandsDuring}
 use Rattle.session_core.specs.Finding.{IfShown, IsOutside, LineStops}
 use Rattle.session_core.specs.Meant.{meant}
 use Rattle.session_core.specs.Sessions.{SessionState}
-use Rattle.session_core.specs.Steps.{IsQuiet, IsRefused, OnlyFrames, Stops, is_quiet}
+use Rattle.session_core.specs.Steps.{IsQuiet, IsRefused, OnlyFrames, Stops}
 use Rattle.session_core.specs.Updates.{WritesUnused}
 use Rattle.ex_base.specs.declared.names.Oid.{Oid}
 use Rattle.session_core.specs.Damage.{no_version}
@@ -79,13 +79,9 @@ IsOfCatalog r = (asks_objects r ≡ false) × (gives_trees r ≡ false)
 abbrev pub ReadsAlone : Request → Type 0
 ReadsAlone r = IsQuiet r × (changes_objects r ≡ false)
 
--- it only looks: it reads alone, and gives no tree up
-abbrev pub only_looks : Request → Bool
-only_looks r = is_quiet r && not (changes_objects r) && not (gives_trees r)
-
--- What is told of damage to a command that only looks is so of any disk that tells its bytes; to another one it is where the disk is honest, too.
+-- What is told of damage is so of any disk that tells its bytes. To a command that changes objects, which reads what it wrote, it is where the disk is honest, too.
 abbrev pub IsHonestTo : Request → Outside → Type 0
-IsHonestTo r w = only_looks r ≡ false → IsTrue w.honest
+IsHonestTo r w = changes_objects r ≡ true → IsTrue w.honest
 
 -- A step on any command, from what stands outside before it to what stands there after it.
 pub record Answers (a b : Outside) (old new : SessionState) (r : Request) (result : Result Reply Stop) : Type 0 where

@@ -184,7 +184,7 @@ pub fn step<H: Host>(
 
     // What is told of a damaged page stands there: on a disk that tells its bytes, which the frames lend, what is wanted of the page and what is got of it are
     // told by a look at the session's volume, for the version that the command names, or on the way down from a root that the session holds. To a command that
-    // commits, changes objects or gives trees up it is so of an honest disk.
+    // changes objects it is so of an honest disk.
     ensures stands { (page : PageNo) (want got : Seen)
         → result ≡ Err (Stop.Damaged page want got)
         → IsHonestTo (request_of command.now) (H.outside host.old)

@@ -118,8 +118,7 @@ pub(crate) fn close<H: Host>(
     requires form { IsTrue (is_request (request.Close name.now)) }
     ensures line { ScansLine (H.outside host.old) (H.outside host.new) session.old session.new
         (request.Close name.now) result }
-    ensures damage { IsTrue (H.outside host.old).honest
-        → IfErr result (TellsDamage (H.outside host.old) (H.outside host.new)
+    ensures damage { IfErr result (TellsDamage (H.outside host.old) (H.outside host.new)
         session.old no_version) }
     ensures idle { OnOk result (free_in session.new Page ≡ free_in session.old Page
         → host.new ≡ host.old) }

@@ -3,6 +3,7 @@ use Rattle.ex_base.proofs.Results.{if_err_handed}
 use Rattle.disk_model.specs.Runs.{disk_trans, honest_on, leaves_trans, reads_refl}
 use Rattle.volume_model.specs.Committed.{StandsForVolume}
 use Rattle.ex_base.proofs.Handed.{no_value}
+use Rattle.volume_port.proofs.GivingUp.{gives_tells}
 use Rattle.packing.proofs.PackFaults.{cause_told, cause_uncommitted, damage_told, never_told, never_uncommitted, no_damage}
 use Rattle.packing.proofs.SettledParts.{checkpoint_geometry, checkpoint_room, checkpoint_sizes, commit_behind, commit_catalog, commit_few, commit_geometry, commit_logged, commit_room, commit_sizes, fits_counted, gave_of, idle_after, kept_of, told_after, with_catalog_image, wrote_of}
 use Rattle.packing.proofs.Settlings.{commit_moments, first_moments, gone_owns, home_moments, settled}
@@ -138,7 +139,7 @@ returns-clause-moved g c =
     λ w before d image moves after version may start. settled before c.args.volume.now d image moves after version c.args.gone.now c.args.come.now c.args.start.now may c.requires.few start c.release_root.ensures.gives.only (honest_on c.release_root.ensures.gives.only.nothing.only.goes may.works.told.0) c.edit.new.self (c.in_ok-edit.ensures.ok ∙ ap (with_catalog_image c.args.volume.now.meta) c.deref.ensures.value)
     (g.D.World.outside c.commit.new.disk) c.commit.new.log c.commit.new.meta c.in_ok-commit.ensures.done (honest_on c.commit.ensures.only.goes (honest_on c.release_root.ensures.gives.only.nothing.only.goes may.works.told.0)) (g.D.World.outside c.checkpoint.new.disk) c.checkpoint.new.log c.checkpoint.new.meta c.in_ok-checkpoint.ensures.done c.own_root.new.units c.release_root.new.units c.checkpoint.new.groups c.own_root.ensures.counts c.release_root.ensures.gives.fewer
     c.in_ok-release_root.ensures.released
-    (told_after c.args.volume.now.groups c.release_root.new.groups c.commit.new.groups c.checkpoint.new.groups c.release_root.ensures.gives.only c.commit.ensures.only c.checkpoint.ensures.only may.works.told c.release_root.ensures.gives.told c.commit.ensures.lends c.commit.ensures.behind c.checkpoint.ensures.lends (commit_behind c.args.volume.now c.args.start.now.catalog.items c.args.come.now c.edit.new.self c.own_root.new.units c.release_root.new.units c.release_root.new.groups (gave_of c.args.volume.now c.args.start.now.catalog.items c.args.come.now c.edit.new.self c.own_root.new.units c.release_root.new.units c.release_root.new.groups c.requires.ready c.requires.log c.requires.committed c.requires.few
+    (told_after c.args.volume.now.groups c.release_root.new.groups c.commit.new.groups c.checkpoint.new.groups c.release_root.ensures.gives.only c.commit.ensures.only c.checkpoint.ensures.only may.works.told (gives_tells c.release_root.ensures.gives) c.commit.ensures.lends c.commit.ensures.behind c.checkpoint.ensures.lends (commit_behind c.args.volume.now c.args.start.now.catalog.items c.args.come.now c.edit.new.self c.own_root.new.units c.release_root.new.units c.release_root.new.groups (gave_of c.args.volume.now c.args.start.now.catalog.items c.args.come.now c.edit.new.self c.own_root.new.units c.release_root.new.units c.release_root.new.groups c.requires.ready c.requires.log c.requires.committed c.requires.few
     (c.in_ok-edit.ensures.ok ∙ ap (with_catalog_image c.args.volume.now.meta) c.deref.ensures.value) c.edit.ensures.touches c.own_root.ensures.counts (c.own_root.ensures.counted c.args.volume.now.geometry c.requires.ready.fits.counted) c.release_root.ensures.gives)))
     (idle_after c.args.volume.now c.args.start.now.catalog.items c.args.come.now c.edit.new.self c.own_root.new.units c.release_root.new.units c.release_root.new.groups
     (gave_of c.args.volume.now c.args.start.now.catalog.items c.args.come.now c.edit.new.self c.own_root.new.units c.release_root.new.units c.release_root.new.groups c.requires.ready c.requires.log c.requires.committed c.requires.few

@@ -78,13 +78,13 @@ pub returns-in-Unfile-clause-damage : goal.returns-in-Unfile-clause-damage
 returns-in-Unfile-clause-damage g c = damage_as (g.H.World.outside c.args.host.now) (g.H.World.outside c.unfile.new.host) c.args.session.now (request_of c.args.command.now) (request.Unfile c.in-Unfile.name.now) c.unfile.result (ap request_of c.in-Unfile.is) (λ honest. IfErr-weaker c.unfile.result _ _ (catalog_told (g.H.World.outside c.args.host.now) (g.H.World.outside c.unfile.new.host) c.args.session.now no_version) c.unfile.ensures.stops)
 
 pub returns-in-Commit-clause-damage : goal.returns-in-Commit-clause-damage
-returns-in-Commit-clause-damage g c = damage_as (g.H.World.outside c.args.host.now) (g.H.World.outside c.commit.new.host) c.args.session.now (request_of c.args.command.now) request.Commit c.commit.result (ap request_of c.in-Commit.is) (λ honest. c.commit.ensures.damage (honest refl))
+returns-in-Commit-clause-damage g c = damage_as (g.H.World.outside c.args.host.now) (g.H.World.outside c.commit.new.host) c.args.session.now (request_of c.args.command.now) request.Commit c.commit.result (ap request_of c.in-Commit.is) (λ honest. c.commit.ensures.damage)
 
 pub returns-in-Abort-clause-damage : goal.returns-in-Abort-clause-damage
-returns-in-Abort-clause-damage g c = damage_as (g.H.World.outside c.args.host.now) (g.H.World.outside c.abort.new.host) c.args.session.now (request_of c.args.command.now) request.Abort c.abort.result (ap request_of c.in-Abort.is) (λ honest. c.abort.ensures.damage (honest refl))
+returns-in-Abort-clause-damage g c = damage_as (g.H.World.outside c.args.host.now) (g.H.World.outside c.abort.new.host) c.args.session.now (request_of c.args.command.now) request.Abort c.abort.result (ap request_of c.in-Abort.is) (λ honest. c.abort.ensures.damage)
 
 pub returns-in-Close-clause-damage : goal.returns-in-Close-clause-damage
-returns-in-Close-clause-damage g c = damage_as (g.H.World.outside c.args.host.now) (g.H.World.outside c.close.new.host) c.args.session.now (request_of c.args.command.now) (request.Close c.in-Close.name.now) c.close.result (ap request_of c.in-Close.is) (λ honest. c.close.ensures.damage (honest refl))
+returns-in-Close-clause-damage g c = damage_as (g.H.World.outside c.args.host.now) (g.H.World.outside c.close.new.host) c.args.session.now (request_of c.args.command.now) (request.Close c.in-Close.name.now) c.close.result (ap request_of c.in-Close.is) (λ honest. c.close.ensures.damage)
 
 pub returns-in-Checkpoint-clause-damage : goal.returns-in-Checkpoint-clause-damage
 returns-in-Checkpoint-clause-damage g c = λ honest. IfErr-weaker c.checkpoint.result _ _ (disk_damage (g.H.World.outside c.args.host.now) (g.H.World.outside c.checkpoint.new.host) c.args.session.now (names_version c.args.session.now (request_of c.args.command.now))) c.checkpoint.ensures.disk_alone

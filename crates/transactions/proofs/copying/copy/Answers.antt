@@ -65,7 +65,7 @@ returns-in-Err-make-clause-line g c =
     c.make.ensures.went c.in-Err-make.stop c.in-Err-make.ensures.stops c.in-Err-make.ensures.sound
 
 pub returns-in-Err-make-clause-damage : goal.returns-in-Err-make-clause-damage
-returns-in-Err-make-clause-damage g c = λ honest. then_damage (reference_of c.args.x.now) c.admit.ensures.only (g.H.World.outside c.make.new.host) c.in-Err-make.stop
+returns-in-Err-make-clause-damage g c = λ honest. then_damage (reference_of c.args.x.now) c.admit.ensures.only (g.H.World.outside c.make.new.host) _ c.in-Err-make.stop
     (admitted_with (λ (given : Original). oid_among c.args.session.now.names (reference_of c.args.x.now) ≡ Some given.oid) c.in-Ok-Ok.original c.in-Ok-Ok.field-0 c.in-Ok-Ok.field-0-is c.in-Ok-Ok.ensures.asked)
     (c.in-Err-make.ensures.damage (honest_on c.admit.ensures.only.reads.nothing.only.goes honest))
 

@@ -68,7 +68,7 @@ returns-in_err-version-clause-damage g c = if_err_handed c.from_residual.result 
     (none_wider (g.H.World.outside c.args.host.now) (g.H.World.outside c.named.new.host) c.args.session.now (named_as c.args.session.now (reference_of c.args.x.now)) _ c.in_err-version.ensures.damage)
 
 pub returns-in-Err-stays_small-clause-damage : goal.returns-in-Err-stays_small-clause-damage
-returns-in-Err-stays_small-clause-damage g c = then_damage (reference_of c.args.x.now) c.named.ensures.only (g.H.World.outside c.stays_small.new.disk) c.in-Err-stays_small.stop
+returns-in-Err-stays_small-clause-damage g c = then_damage (reference_of c.args.x.now) c.named.ensures.only (g.H.World.outside c.stays_small.new.disk) _ c.in-Err-stays_small.stop
     (oid_named c.args.session.now (reference_of c.args.x.now) c.in-Ok.version _ c.in-Ok.is c.in_ok-version.ensures.asked)
     c.in-Err-stays_small.ensures.damage
 

@@ -56,7 +56,7 @@ pub returns-in-Err-read_found-clause-damage : goal.returns-in-Err-read_found-cla
 returns-in-Err-read_found-clause-damage g c =
     let s = c.args.session.now in
     let version = c.in-Ok-Ok.version in
-    found_damage (reference_of c.args.x.now) c.named.ensures.only (g.H.World.outside c.read_found.new.disk) version.found.root c.in-Err-read_found.stop
+    found_damage (reference_of c.args.x.now) c.named.ensures.only (g.H.World.outside c.read_found.new.disk) _ version.found.root c.in-Err-read_found.stop
     (oid_named s (reference_of c.args.x.now) version c.in-Ok-Ok.field-0 c.in-Ok-Ok.field-0-is c.in-Ok-Ok.ensures.asked)
     (roots_at s (g.H.World.outside c.args.host.now) version c.in-Ok-Ok.field-0 c.in-Ok-Ok.field-0-is c.in-Ok-Ok.ensures.rooted) c.in-Err-read_found.ensures.damage
 

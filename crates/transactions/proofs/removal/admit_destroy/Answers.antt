@@ -63,7 +63,7 @@ pub returns-in-Err-clause-damage : goal.returns-in-Err-clause-damage
 returns-in-Err-clause-damage g c = none_wider (g.H.World.outside c.args.host.now) (g.H.World.outside c.named.new.host) c.args.session.now (named_as c.args.session.now (reference_of c.args.x.now)) c.in-Err.stop c.in-Err.ensures.damage
 
 pub returns-in-Err-is_only_one-clause-damage : goal.returns-in-Err-is_only_one-clause-damage
-returns-in-Err-is_only_one-clause-damage g c = then_damage (reference_of c.args.x.now) c.named.ensures.only (g.H.World.outside c.is_only_one.new.host) c.in-Err-is_only_one.stop
+returns-in-Err-is_only_one-clause-damage g c = then_damage (reference_of c.args.x.now) c.named.ensures.only (g.H.World.outside c.is_only_one.new.host) _ c.in-Err-is_only_one.stop
     (oid_named c.args.session.now (reference_of c.args.x.now) c.in-Ok-Ok.version c.in-Ok-Ok.field-0 c.in-Ok-Ok.field-0-is c.in-Ok-Ok.ensures.asked)
     c.in-Err-is_only_one.ensures.damage
 

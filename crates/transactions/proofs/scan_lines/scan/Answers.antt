@@ -48,7 +48,7 @@ pub returns-in-Err-clause-damage : goal.returns-in-Err-clause-damage
 returns-in-Err-clause-damage g c = none_wider (g.H.World.outside c.args.host.now) (g.H.World.outside c.named.new.host) c.args.session.now (named_as c.args.session.now (reference_of c.args.x.now)) c.in-Err.stop c.in-Err.ensures.damage
 
 pub returns-in-Err-open_scan-clause-damage : goal.returns-in-Err-open_scan-clause-damage
-returns-in-Err-open_scan-clause-damage g c = then_damage (reference_of c.args.x.now) c.named.ensures.only (g.H.World.outside c.open_scan.new.host) c.in-Err-open_scan.stop
+returns-in-Err-open_scan-clause-damage g c = then_damage (reference_of c.args.x.now) c.named.ensures.only (g.H.World.outside c.open_scan.new.host) _ c.in-Err-open_scan.stop
     (oid_named c.args.session.now (reference_of c.args.x.now) c.in-Ok-opening_of.opening.version c.in-Ok.told c.in-Ok-opening_of.ensures.found c.in-Ok.ensures.asked)
     c.in-Err-open_scan.ensures.damage
 
