@@ -18,7 +18,8 @@ is always the same name of the other.
 
 A pair is accepted where docs/DECISIONS.md has a line of its section "Blocks that stand alike"
 with the paths of both files in backticks and the reason behind them. A line there that no pair
-needs any more fails the check too.
+needs any more fails the check too. Answers to goals of two functions pass as they are: the prover
+names each goal by its function, so that no answer can stand for both.
 """
 from __future__ import annotations
 
@@ -105,6 +106,10 @@ class Pair(NamedTuple):
         return (self.files() == pair.files() and self.at - self.to == pair.at - pair.to
                 and self.one.path == pair.one.path
                 and self.at <= pair.at and pair.at + pair.length <= self.at + self.length)
+
+    def is_of_goals(self) -> bool:
+        """Whether both stand in files of goals, where each name is that of its function."""
+        return all(os.path.basename(it) in OF_GOALS for it in self.files())
 
     def line(self) -> str:
         """What is told of it."""
@@ -297,7 +302,7 @@ def check(files: list[Source], least: int, within: int) -> int:
     found = alike(files, least, False, False)
     found += [it for it in alike(files, within, True, False) if it.one.crate == it.other.crate]
     named = accepted()
-    bad = [it.line() for it in found if it.files() not in named]
+    bad = [it.line() for it in found if not it.is_of_goals() and it.files() not in named]
     needed = {it.files() for it in found}
     bad += [f"docs/DECISIONS.md names a pair that isn't alike any more: {line[:120]}"
             for pair, line in named.items() if pair not in needed]

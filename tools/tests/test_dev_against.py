@@ -40,6 +40,20 @@ class AgainstTest(InToy):
             "  is  result.number ≤ 10",
             "0 clauses and definitions are new"])
 
+    def test_heads(self) -> None:
+        """clauses of a trait's method, of a law without a body, and behind a `;` are read too"""
+        path = "crates/low/src/pages.rt"
+        law = "\n/// A law.\npub fn law(bytes: [u8; 4])\n    ensures few { 4 ≤ 9 }\n{}\n"
+        self.write(path, self.text(path) + law)
+        self.assertEqual(self.told(), ["1 clauses and definitions are new"])
+        subprocess.run([*GIT, "commit", "-qam", "low: a law"], check=True)
+        self.change(path, "ensures few { 4 ≤ 9 }", "ensures few { 4 ≤ 10 }")
+        self.change(path, "ensures number { IsTrue ready };", "ensures number { ready };")
+        self.assertEqual(self.told(), [
+            "low: ensures Reads::read, number changed", "  was IsTrue ready", "  is  ready",
+            "low: ensures law, few changed", "  was 4 ≤ 9", "  is  4 ≤ 10",
+            "0 clauses and definitions are new"])
+
     def test_definitions(self) -> None:
         """a definition that changed is told, but for its comments"""
         path = "crates/low/specs/Pages.antt"

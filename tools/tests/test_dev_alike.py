@@ -66,6 +66,19 @@ class AlikeTest(InToy):
         self.change("docs/DECISIONS.md", "## Others\n", f"## Others\n\n{line}\n")
         self.assertEqual(self.told("--check"), [])
 
+    def test_answers(self) -> None:
+        """answers to goals of two functions pass, and one beside a file of lemmas doesn't"""
+        one = "crates/low/proofs/read/Answers.antt"
+        other = "crates/exsm_run/proofs/run/Answers.antt"
+        laws = "crates/exsm_run/proofs/Laws.antt"
+        self.write(one, block(25))
+        self.write(other, block(25, "walk"))
+        self.assertEqual(self.told("--check"), [])
+        self.assertEqual(len(self.told("--least", 21)), 1)
+        self.write(laws, block(25, "walk"))
+        self.assertEqual(self.told("--check"), [
+            f"  25 lines, but for names: {laws}:1-25 ~ {one}:1-25"])
+
     def test_near(self) -> None:
         """pieces with up to four other lines between are one block to --near"""
         lines = block(22).split("\n")

@@ -11,10 +11,12 @@ from typing import Iterator, NamedTuple
 
 from crate_code import TOP
 
-HEAD = re.compile(r"\s*(?:pub(?:\([a-z]+\))? )?(?:const )?(?:unsafe )?fn (\w+)")
+HEAD = re.compile(
+    r"\s*(?:pub(?:\([a-z]+\))? )?(?:const )?(?:unsafe )?(?:extern \"C\" )?fn (\w+)")
 ITEM = re.compile(r"(?:unsafe )?impl(?:<[^{]*?>)? (?:[\w:]+(?:<[^{]*>)? for )?([\w:]+)"
                   r"|(?:pub(?:\([a-z]+\))? )?trait (\w+)")
 CLAUSE = re.compile(r"\b(requires|ensures)\*?(?: (\w+))? \{")
+OPENS = re.compile(r"\b(?:requires|ensures)\*?(?: \w+)? \Z")
 DEFINITION = re.compile(r"(?:unfoldable )?(?:abbrev |record |data )?(?:pub )?"
                         r"(?:unfoldable )?(?:abbrev |record |data )?(?:pub )?([^\s:(]+)")
 
@@ -42,9 +44,21 @@ def braced(text: str, start: int) -> str:
     return text[start + 1:]
 
 
+def head_end(text: str, start: int) -> int:
+    """Where the head ends of the function that begins at a place: at its body, or at its `;`."""
+    depth = 0
+    for at in range(start, len(text)):
+        char = text[at]
+        if depth == 0 and (char == ";" or char == "{" and not OPENS.search(text[start:at])):
+            return at
+        depth += {"{": 1, "(": 1, "[": 1, "}": -1, ")": -1, "]": -1}.get(char, 0)
+    return len(text)
+
+
 def heads_of(text: str) -> Iterator[tuple[str, str]]:
     """The functions of a file by name, each with the text from its head to its body."""
-    owner, name, head = "", "", list[str]()
+    text = re.sub(r"(?m)^\s*//.*$", "", text)
+    owner, start = "", 0
     for line in text.split("\n"):
         item = ITEM.match(line)
         if item:
@@ -52,12 +66,9 @@ def heads_of(text: str) -> Iterator[tuple[str, str]]:
         elif line.startswith("}"):
             owner = ""
         if found := HEAD.match(line):
-            name, head = (owner if line.startswith(" ") else "") + found[1], []
-        if name:
-            head.append(line)
-            if line.strip() == "{" or line.endswith((" {", ";")) and not CLAUSE.search(line):
-                yield name, "\n".join(head)
-                name = ""
+            name = (owner if line.startswith(" ") else "") + found[1]
+            yield name, text[start:head_end(text, start)]
+        start += len(line) + 1
 
 
 def clauses_of(crate: str, text: str) -> Iterator[tuple[Said, str]]:
