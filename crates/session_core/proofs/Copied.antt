@@ -29,12 +29,24 @@ use Rattle.volume_edits.proofs.Contents.{has_catalog}
 use Rattle.volume_edits.proofs.CopiedVolumes.{body_back, current, derive_becomes, found, freeze_becomes, is_old, its_record, linked, own, writes_kept}
 use Rattle.session_core.specs.declared.updates.copying.Copying.{Copying}
 use Rattle.session_core.specs.declared.updates.copying.Copying.TheVariants as copying
-use Rattle.session_core.specs.Performed.{copies}
+use Rattle.session_core.specs.Performed.{copies, to_copy}
+use Rattle.volume_edits.specs.Purposes.{IsOffPages, IsUnfit, off_pages}
+use Rattle.ex_base.specs.declared.geometry.Geometry.{Geometry}
 use Rattle.volume_edits.specs.TableUpdates.{AsksCopy, BecomesVolume, TakesNeed, TakesWithin}
 use Rattle.table_model.specs.Needs.{pages_need}
 use Rattle.session_core.specs.Performed.{LeavesShaped, Updates}
 use Rattle.session_core.proofs.Contents.{copy_since, counted_content, derive_shares, freeze_shares}
 use Rattle.volume_edits.specs.TableUpdates.{Derives as DerivesVersion, Freezes as FreezesVersion}
+
+-- no page of a file has the place of the version: it can't be copied
+pub uncopied_off : (g : Geometry) (held : ℕ → Bool) (image : ℕ → List ℕ) (oid : Oid) (how : Copying) → IsOffPages g image (place_of oid) → IsUnfit g held image oid (to_copy how)
+uncopied_off g held image oid copying.Freeze off = off_pages off
+uncopied_off g held image oid copying.Derive off = off_pages off
+
+-- the room that is asked for is of the version's file, in what is read after the look for that
+pub filed_later : {S : Type 0} (g : ground.Ghosts S) (mid now : S) → Keeps g mid now → (oid : Oid) (file_no room_no : ℕ) → room_no ≡ file_no → ((index : Index) (body : List ℕ) → HasBody g mid index (place_of oid) body → index.file_no ≡ file_no)
+    → (index : Index) (body : List ℕ) → HasBody g now index (place_of oid) body → index.file_no ≡ room_no
+filed_later g mid now keeps oid file_no room_no room filed index body has = filed index body (body_back g mid now keeps index (place_of oid) body has) ∙ sym room
 
 -- a copy may take sixteen pages
 pub copy_taken : {S : Type 0} (g : ground.Ghosts S) (old new : S) (how : Copying) (oid : Oid) (unique : ℕ) → TakesWithin g old new (pages_need 16) → TakesNeed g old new (copies how oid unique)

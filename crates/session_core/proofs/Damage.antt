@@ -13,7 +13,7 @@ use Rattle.ex_base.specs.declared.names.PageNo.{PageNo}
 use Rattle.ex_base.specs.declared.names.Root.{Root}
 use Rattle.ex_base.specs.Area.{InPageArea, area_end, catalog_no}
 use Rattle.ex_base.specs.Ports.{IsDamage}
-use Rattle.ex_base.specs.Seen.{file_page_seen, nothing_seen, catalog_seen}
+use Rattle.ex_base.specs.Seen.{nothing_seen, record_seen, catalog_seen}
 use Rattle.slotted_pages.specs.Reads.{IsPage}
 use Rattle.object_records.specs.Record.{Content, Small, Large}
 use Rattle.open_scans.specs.OpenScans.{AtRow, IsNextFault, OpenRow, position_of}
@@ -36,10 +36,11 @@ use Rattle.trees.specs.Damage.{IsRootFault, IsRootReadFault}
 use Rattle.trees.proofs.ReadFaults.{root_read_walks}
 use Rattle.volume_edits.specs.Damage as damage
 use Rattle.volume_edits.specs.Damage.{IsDamageOf, IsVolumeFault, IsFaultOver}
-use Rattle.volume_edits.proofs.Damage.{fault_wider}
+use Rattle.volume_edits.proofs.Damage.{fault_wider, told_unfit}
+use Rattle.volume_edits.specs.Purposes.{Purpose, ToMeasure, anyhow}
 use Rattle.volume_port.specs.Logged.{is_held}
 use Rattle.session_core.specs.Damage as told
-use Rattle.session_core.specs.Damage.{HoldsRoot, IsFaultIn, IsSessionDamage, TellsDamage, TellsOfTree, image_on, no_version, the_version, units_on}
+use Rattle.session_core.specs.Damage.{HoldsRoot, IsDamageFor, IsFaultIn, IsSessionDamage, TellsDamage, TellsFor, TellsOfTree, image_on, no_version, units_on, version_for}
 use Rattle.session_core.specs.Finding.{IsPortOver, stop_at, stop_or}
 use Rattle.session_core.specs.Sessions.{SessionState}
 use Rattle.session_core.specs.Steps.{OnlyFrames, Stops}
@@ -58,18 +59,18 @@ use Rattle.volume_port.proofs.WorkingUnits.{image_is, page_bytes}
 use Rattle.trees.specs.Trees.{Units}
 
 -- what a call reads of the session's volume, and how it stops
-abbrev IsFault : Outside → SessionState → (Oid → Type 0) → PortFault → Type 0
+abbrev IsFault : Outside → SessionState → (Oid → Purpose → Type 0) → PortFault → Type 0
 IsFault a s asked f = IsVolumeFault s.geometry (is_held s.pages) (image_on a s) (units_on a s) asked f
 
-pub stops_so : (a b : Outside) (s : SessionState) (asked : Oid → Type 0) (f : PortFault) → (TellsBytes a s.groups → IsFault a s asked f) → TellsDamage a b s asked (stop_at f)
+pub stops_so : (a b : Outside) (s : SessionState) (asked : Oid → Purpose → Type 0) (f : PortFault) → (TellsBytes a s.groups → IsFault a s asked f) → TellsFor a b s asked (stop_at f)
 stops_so a b s asked fault.Disk is = tt
 stops_so a b s asked fault.Memory is = tt
 stops_so a b s asked (fault.Damaged page want got) is = λ tells. told.of_volume (is tells)
 
 -- The damage that a port over the session tells is one of the session's volume.
-pub damage_told : {T S : Type 0} (g : ground.Ghosts S) (s : S) {a : Outside} {old : SessionState} (b : Outside) (asked : Oid → Type 0) (said : Result T PortFault) (result : Result T Stop) → result ≡ stop_or said → IsPortOver g s a old
-    → IfErr said (IsFaultIn g s asked) → IfErr result (TellsDamage a b old asked)
-damage_told {T} g s {a} {old} b asked said result is over tells = told_err said result is (TellsDamage a b old asked) (by said tells)
+pub damage_told : {T S : Type 0} (g : ground.Ghosts S) (s : S) {a : Outside} {old : SessionState} (b : Outside) (asked : Oid → Purpose → Type 0) (said : Result T PortFault) (result : Result T Stop) → result ≡ stop_or said → IsPortOver g s a old
+    → IfErr said (IsFaultIn g s asked) → IfErr result (TellsFor a b old asked)
+damage_told {T} g s {a} {old} b asked said result is over tells = told_err said result is (TellsFor a b old asked) (by said tells)
   where
     over_port : (f : PortFault) → IsVolumeFault (g.geometry s) (g.held s) (g.image s) (g.unit s) asked f → IsFault a old asked f
     over_port f h = subst (λ x. IsVolumeFault x (is_held old.pages) (image_on a old) (units_on a old) asked f) over.port.geometry
@@ -77,7 +78,7 @@ damage_told {T} g s {a} {old} b asked said result is over tells = told_err said 
         (subst (λ x. IsVolumeFault (g.geometry s) (g.held s) x (units_on a old) asked f) over.port.image
         (subst (λ x. IsVolumeFault (g.geometry s) (g.held s) (g.image s) x asked f) over.port.unit h)))
 
-    by : (r : Result T PortFault) → IfErr r (IsFaultIn g s asked) → IfErr r (λ f. TellsDamage a b old asked (stop_at f))
+    by : (r : Result T PortFault) → IfErr r (IsFaultIn g s asked) → IfErr r (λ f. TellsFor a b old asked (stop_at f))
     by (Ok x) h = tt
     by (Err f) h = stops_so a b old asked f (λ t. over_port f (h (over.tells t)))
 
@@ -142,20 +143,26 @@ scan_held s index there (Some root) found each has =
     told.of_scan row.row (index, slice_get_within s.scans index row.row row.at, get_or_from_slice_get s.scans index row.row row.row row.at)
     (sym (found row.row row.at) ∙ ap (λ (r : Root). Some r) (sym (only_one root each has)))
 
--- the same of more versions
-pub wider_damage : (a b : Outside) (s : SessionState) (few many : Oid → Type 0) (why : Stop) → ((oid : Oid) → few oid → many oid) → TellsDamage a b s few why → TellsDamage a b s many why
-wider_damage a b s few many stop.Memory wider is = tt
-wider_damage a b s few many stop.Disk wider is = tt
-wider_damage a b s few many stop.Down wider is = tt
-wider_damage a b s few many (stop.Damaged page want got) wider is = λ tells. by (is tells)
+-- the same of more versions, and for more purposes
+pub wider_for : (a b : Outside) (s : SessionState) (few many : Oid → Purpose → Type 0) (why : Stop) → ((oid : Oid) (purpose : Purpose) → few oid purpose → many oid purpose) → TellsFor a b s few why → TellsFor a b s many why
+wider_for a b s few many stop.Memory wider is = tt
+wider_for a b s few many stop.Disk wider is = tt
+wider_for a b s few many stop.Down wider is = tt
+wider_for a b s few many (stop.Damaged page want got) wider is = λ tells. by (is tells)
   where
-    by : IsSessionDamage a b s few page want got → IsSessionDamage a b s many page want got
+    by : IsDamageFor a b s few page want got → IsDamageFor a b s many page want got
     by (told.of_volume h) = told.of_volume (fault_wider s.geometry (is_held s.pages) (image_on a s) few many wider (units_on a s) (fault.Damaged page want got) h)
     by (told.of_held_root root holds h) = told.of_held_root root holds h
     by (told.of_spent at wanted seen spent) = told.of_spent at wanted seen spent
 
+pub wider_damage : (a b : Outside) (s : SessionState) (few many : Oid → Type 0) (why : Stop) → ((oid : Oid) → few oid → many oid) → TellsDamage a b s few why → TellsDamage a b s many why
+wider_damage a b s few many why wider is = wider_for a b s (anyhow few) (anyhow many) why (λ oid purpose own. wider oid own) is
+
 pub none_wider : (a b : Outside) (s : SessionState) (many : Oid → Type 0) (why : Stop) → TellsDamage a b s no_version why → TellsDamage a b s many why
 none_wider a b s many why is = wider_damage a b s no_version many why (λ oid none. absurd none) is
+
+pub none_for : (a b : Outside) (s : SessionState) (many : Oid → Purpose → Type 0) (why : Stop) → TellsDamage a b s no_version why → TellsFor a b s many why
+none_for a b s many why is = wider_for a b s (anyhow no_version) many why (λ oid purpose none. absurd none) is
 
 -- ---- what is told of a page without a room
 
@@ -164,11 +171,11 @@ pub both_errors : {T E : Type 0} (r : Result T E) (P Q R : E → Type 0) → IfE
 both_errors (Ok x) P Q R p q f = tt
 both_errors (Err e) P Q R p q f = f e p q
 
-pub room_over : (g : Geometry) (held : ℕ → Bool) (image : ℕ → List ℕ) (units : Units) (oid : Oid) (f : PortFault) → (IsDamage f → f ≡ fault.Damaged oid.page (file_page_seen 0) nothing_seen)
-    → (IsDamage f → InPageArea g oid.page.0 → IsPage (image oid.page.0) → ⊥) → IsFaultOver g held image units (the_version oid) f
+pub room_over : (g : Geometry) (held : ℕ → Bool) (image : ℕ → List ℕ) (units : Units) (oid : Oid) (f : PortFault) → (IsDamage f → f ≡ fault.Damaged oid.page (record_seen oid.slot) nothing_seen)
+    → (IsDamage f → InPageArea g oid.page.0 → IsPage (image oid.page.0) → ⊥) → IsFaultOver g held image units (version_for oid ToMeasure) f
 room_over g held image units oid fault.Disk is isnt = damage.ports_own (λ none. none)
 room_over g held image units oid fault.Memory is isnt = damage.ports_own (λ none. none)
-room_over g held image units oid (fault.Damaged page want got) is isnt = damage.no_file_page oid refl (isnt tt) (is tt)
+room_over g held image units oid (fault.Damaged page want got) is isnt = told_unfit g held image units (version_for oid ToMeasure) oid ToMeasure _ (refl, refl) (isnt tt) (is tt)
 
 -- ---- the root that is found
 
@@ -206,7 +213,7 @@ module _ {a b : Outside} (old mid : SessionState) (one : OnlyFrames a b old mid)
       as_old (told.of_turned rest out) = told.of_turned rest out
       as_old (told.of_lost has) = told.of_lost has
 
-  same_damage : (c : Outside) (asked : Oid → Type 0) (page : PageNo) (want got : Seen) → IsSessionDamage b c mid asked page want got → IsSessionDamage a c old asked page want got
+  same_damage : (c : Outside) (asked : Oid → Purpose → Type 0) (page : PageNo) (want got : Seen) → IsDamageFor b c mid asked page want got → IsDamageFor a c old asked page want got
   same_damage c asked page want got (told.of_volume is) = told.of_volume
       (subst (λ (o : Option (List ℕ)). IsDamageOf old.geometry (is_held old.pages) (image_on (record a { disk = o }) old) (unit_bytes old.geometry o) asked page want got) one.reads.nothing.disk
       (subst (λ (s : SessionState). IsDamageOf s.geometry (is_held s.pages) (image_on b s) (units_on b s) asked page want got) one.same is))
@@ -216,11 +223,14 @@ module _ {a b : Outside} (old mid : SessionState) (one : OnlyFrames a b old mid)
   same_damage c asked page want got (told.of_held_root root holds is) = told.of_held_root root (same_root root holds)
       (subst (λ (s : SessionState). IsRootFault s.geometry (units_on c s) root (fault.Damaged page want got)) one.same is)
 
+  pub later_for : (c : Outside) (asked : Oid → Purpose → Type 0) (why : Stop) → TellsFor b c mid asked why → TellsFor a c old asked why
+  later_for c asked stop.Memory is = tt
+  later_for c asked stop.Disk is = tt
+  later_for c asked (stop.Damaged page want got) is = λ tells. same_damage c asked page want got (is (later_tells tells))
+  later_for c asked stop.Down is = tt
+
   pub later_damage : (c : Outside) (asked : Oid → Type 0) (why : Stop) → TellsDamage b c mid asked why → TellsDamage a c old asked why
-  later_damage c asked stop.Memory is = tt
-  later_damage c asked stop.Disk is = tt
-  later_damage c asked (stop.Damaged page want got) is = λ tells. same_damage c asked page want got (is (later_tells tells))
-  later_damage c asked stop.Down is = tt
+  later_damage c asked why is = later_for c (anyhow asked) why is
 
   -- what is told of the tree of a root that stands in a record, as a call found it
   pub shape_damage : (c : Outside) (asked : Oid → Type 0) (root : Root) (oid : Oid) (why : Stop) → (TellsBytes a old.groups → IsRootAt (image_on a old) oid root) → TellsOfTree b mid root why → TellsDamage a c old asked why

@@ -20,6 +20,7 @@ use Rattle.volume_port.specs.Ported.{image_over}
 use Rattle.volume_port.specs.Reading.{TellsBytes}
 use Rattle.volume_port.specs.declared.state.VolumeState.{VolumeState}
 use Rattle.volume_edits.specs.Damage.{IsDamageOf, IsVolumeFault}
+use Rattle.volume_edits.specs.Purposes.{Purpose, ToReadSmall, anyhow}
 use Rattle.session_core.specs.Sessions.{SessionState}
 use Rattle.session_core.specs.Turning.{TakenOut}
 use Rattle.ex_base.specs.Area.{catalog_no}
@@ -42,16 +43,24 @@ pub data HoldsRoot (s : SessionState) (root : Root) : Type 0 where
 
 -- What is told of a page is so of the session's volume, as it stood before the call; or of a page on the way down from a root that the session holds, as the
 -- units stand after it; or that the catalog has no number of a commit left.
-pub data IsSessionDamage (a b : Outside) (s : SessionState) (asked : Oid → Type 0) (page : PageNo) (want got : Seen) : Type 0 where
-  of_volume : IsDamageOf s.geometry (is_held s.pages) (image_on a s) (units_on a s) asked page want got → IsSessionDamage a b s asked page want got
-  of_held_root : (root : Root) → HoldsRoot s root → IsRootFault s.geometry (units_on b s) root (fault.Damaged page want got) → IsSessionDamage a b s asked page want got
-  of_spent : page.0 ≡ catalog_no → want ≡ catalog_seen → got ≡ nothing_seen → (catalog_on (image_on a s catalog_no)).last ≡ 2 ^ 64 - 1 → IsSessionDamage a b s asked page want got
+pub data IsDamageFor (a b : Outside) (s : SessionState) (asked : Oid → Purpose → Type 0) (page : PageNo) (want got : Seen) : Type 0 where
+  of_volume : IsDamageOf s.geometry (is_held s.pages) (image_on a s) (units_on a s) asked page want got → IsDamageFor a b s asked page want got
+  of_held_root : (root : Root) → HoldsRoot s root → IsRootFault s.geometry (units_on b s) root (fault.Damaged page want got) → IsDamageFor a b s asked page want got
+  of_spent : page.0 ≡ catalog_no → want ≡ catalog_seen → got ≡ nothing_seen → (catalog_on (image_on a s catalog_no)).last ≡ 2 ^ 64 - 1 → IsDamageFor a b s asked page want got
 
--- Where the disk tells its bytes, and each frame lends those of its page, a damage is so to which a call stops that is asked of versions by their OIDs. Of
--- the disk no honesty is asked: a call that reads at most tells it of any.
+-- the same of a line that names versions, for whatever purpose it then asks for them
+abbrev pub IsSessionDamage : Outside → Outside → SessionState → (Oid → Type 0) → PageNo → Seen → Seen → Type 0
+IsSessionDamage a b s asked page want got = IsDamageFor a b s (anyhow asked) page want got
+
+-- Where the disk tells its bytes, and each frame lends those of its page, a damage is so to which a call stops that is asked of versions by their OIDs, each for
+-- a purpose. Of the disk no honesty is asked: a call that reads at most tells it of any.
+abbrev pub TellsFor : Outside → Outside → SessionState → (Oid → Purpose → Type 0) → Stop → Type 0
+TellsFor a b s asked (stop.Damaged page want got) = TellsBytes a s.groups → IsDamageFor a b s asked page want got
+TellsFor a b s asked why = ⊤
+
+-- the same whatever the purpose
 abbrev pub TellsDamage : Outside → Outside → SessionState → (Oid → Type 0) → Stop → Type 0
-TellsDamage a b s asked (stop.Damaged page want got) = TellsBytes a s.groups → IsSessionDamage a b s asked page want got
-TellsDamage a b s asked why = ⊤
+TellsDamage a b s asked why = TellsFor a b s (anyhow asked) why
 
 -- the same of a call that reads the tree of a root: of a page on the way down from it
 abbrev pub TellsOfTree : Outside → SessionState → Root → Stop → Type 0
@@ -59,11 +68,11 @@ TellsOfTree a s root (stop.Damaged page want got) = TellsBytes a s.groups → Is
 TellsOfTree a s root why = ⊤
 
 -- what a call on a port tells, over what the port has at first
-abbrev pub IsFaultIn : {S : Type 0} → ground.Ghosts S → S → (Oid → Type 0) → PortFault → Type 0
+abbrev pub IsFaultIn : {S : Type 0} → ground.Ghosts S → S → (Oid → Purpose → Type 0) → PortFault → Type 0
 IsFaultIn g s asked fault = g.tells s → IsVolumeFault (g.geometry s) (g.held s) (g.image s) (g.unit s) asked fault
 
 -- the same over the parts of a volume
-abbrev pub IsFaultAt : Outside → VolumeState → (Oid → Type 0) → PortFault → Type 0
+abbrev pub IsFaultAt : Outside → VolumeState → (Oid → Purpose → Type 0) → PortFault → Type 0
 IsFaultAt w v asked fault = Tells w v.groups
     → IsVolumeFault v.geometry (is_held v.pages) (image_over v.geometry v.meta (unit_bytes v.geometry w.disk)) (unit_bytes v.geometry w.disk) asked fault
 
@@ -75,17 +84,18 @@ pub record IsTurningFault (g : Geometry) (units : Units) (gained : List Root) (f
   pub way : IsRootFault g units root fault
 
 -- What is told where an update turns the roots of a transaction: of the volume as it stood before it; or of a root that is given up, as the units stand then.
-abbrev pub IsUpdateFault : Outside → Outside → VolumeState → List Root → (Oid → Type 0) → PortFault → Type 0
+abbrev pub IsUpdateFault : Outside → Outside → VolumeState → List Root → (Oid → Purpose → Type 0) → PortFault → Type 0
 IsUpdateFault a b v gained asked fault = IsFaultAt a v asked fault ⊎ (Tells a v.groups → IsTurningFault v.geometry (unit_bytes v.geometry b.disk) gained fault)
 
--- of no version, and of the one with this OID
+-- of no version
 abbrev pub no_version : Oid → Type 0
 no_version oid = ⊥
 
-abbrev pub the_version : Oid → Oid → Type 0
-the_version own oid = oid ≡ own
+-- of the version with this OID, for this purpose
+abbrev pub version_for : Oid → Purpose → Oid → Purpose → Type 0
+version_for own purpose oid other = (oid ≡ own) × (other ≡ purpose)
 
--- The same of a call that reads a version as it was found: where it has a root, of the tree of that, else of the version.
-abbrev pub TellsOfFound : Outside → Outside → SessionState → Oid → Option Root → Stop → Type 0
-TellsOfFound a b s oid None why = TellsDamage a b s (the_version oid) why
-TellsOfFound a b s oid (Some root) why = TellsOfTree a s root why
+-- The same of a call that reads so many of a version's first bytes as it was found: where it has a root, of the tree of that, else of the version.
+abbrev pub TellsOfFound : Outside → Outside → SessionState → Oid → ℕ → Option Root → Stop → Type 0
+TellsOfFound a b s oid end None why = TellsFor a b s (version_for oid (ToReadSmall end)) why
+TellsOfFound a b s oid end (Some root) why = TellsOfTree a s root why

@@ -1,7 +1,8 @@
 -- What an update of objects is asked for, as an update of the table, and what it does.
-use Rattle.std.specs.Prelude.{◌≡◌, ◌≤◌, ◌<◌, ◌+◌, ◌^◌, ℕ, List, Result, IfOk, IfErr, ⊤}
+use Rattle.std.specs.Prelude.{◌≡◌, ◌≤◌, ◌<◌, ◌+◌, ◌^◌, ℕ, Bool, List, Result, IfOk, IfErr, ⊤}
 use Rattle.ex_base.specs.declared.ground.Ground as ground
 use Rattle.ex_base.specs.declared.faults.PortFault.{PortFault}
+use Rattle.ex_base.specs.declared.names.Area.{Area}
 use Rattle.ex_base.specs.declared.names.Oid.{Oid}
 use Rattle.ex_base.specs.Ports.{IsDamage}
 use Rattle.file_bodies.specs.Touches.{body_pages}
@@ -17,7 +18,8 @@ use Rattle.volume_edits.specs.Ported.{IsApart, IsVolume, units_in}
 use Rattle.volume_edits.specs.TableUpdates.{Asks, BecomesVolume, HasRoom, TableUpdate, Makes, Changes, Removes, Freezes, Derives, Drops, updated}
 use Rattle.volume_model.specs.Volume.{Volume, table_of}
 use Rattle.session_core.specs.Contents.{Shaped, pages_in}
-use Rattle.session_core.specs.Damage.{no_version, the_version}
+use Rattle.session_core.specs.Damage.{no_version, version_for}
+use Rattle.volume_edits.specs.Purposes.{Purpose, ToChange, ToDerive, ToDrop, ToFreeze, ToRemove, anyhow}
 
 -- a copy of a version, as an update of the table
 abbrev pub copies : Copying → Oid → ℕ → TableUpdate
@@ -40,13 +42,18 @@ NamesOid (update.Remove x) oid = oid ≡ x
 NamesOid (update.Copy copying x unique) oid = oid.unique ≡ unique
 NamesOid (update.Drop x) oid = oid ≡ x
 
--- the version that it is asked of, where it is asked of one
-abbrev pub asked_of : ObjectUpdate → Oid → Type 0
-asked_of (update.Create file_no unique) = no_version
-asked_of (update.Change x edit) = the_version x
-asked_of (update.Remove x) = the_version x
-asked_of (update.Copy copying x unique) = the_version x
-asked_of (update.Drop x) = the_version x
+-- what a copy asks for a version for
+abbrev pub to_copy : Copying → Purpose
+to_copy copying.Freeze = ToFreeze
+to_copy copying.Derive = ToDerive
+
+-- the version that it is asked of, and for what, where these units are in use and so many are free; none where it is asked of none
+abbrev pub asked_of : (ℕ → Bool) → (Area → ℕ) → ObjectUpdate → Oid → Purpose → Type 0
+asked_of used free (update.Create file_no unique) = anyhow no_version
+asked_of used free (update.Change x edit) = version_for x (ToChange (change_of edit) used free)
+asked_of used free (update.Remove x) = version_for x ToRemove
+asked_of used free (update.Copy copying x unique) = version_for x (to_copy copying)
+asked_of used free (update.Drop x) = version_for x ToDrop
 
 -- the most logged pages that it touches: for a change of bytes the one of its version's record
 abbrev pub charge_of : ObjectUpdate → ℕ

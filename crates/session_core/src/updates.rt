@@ -5,7 +5,8 @@ ghost use Rattle.ex_base.specs.declared.names.Area.TheVariants.{Page};
 ghost use Rattle.volume_edits.specs.TableUpdates.{TableUpdate, TakesNeed, Changes};
 ghost use Rattle.session_core.specs.Performed.{LeavesShaped, Updates, asked_of};
 ghost use Rattle.session_core.specs.Performed.{CanPerform, IsCopying, IsUpdate, NamesOid, charge_of};
-ghost use Rattle.session_core.specs.Damage.{IsFaultIn, the_version};
+ghost use Rattle.session_core.specs.Damage.{IsFaultIn, version_for};
+ghost use Rattle.volume_edits.specs.Purposes.{ToChange};
 ghost use Rattle.file_index.specs.Taking.{OnlyTakes};
 ghost use Rattle.file_index.specs.Touches.{TouchesAtMost};
 ghost use Rattle.file_rooms.specs.Rooms.{ChangesOne};
@@ -82,7 +83,8 @@ fn change<V: Volume>(
         (Changes oid.now (change_of edit.now))) }
     ensures touches { OnOk result (TouchesAtMost V.Ground volume.old volume.new 1) }
     ensures rooms { ChangesOne rooms.old rooms.new }
-    ensures fault { IfErr result (IsFaultIn V.Ground volume.old (the_version oid.now)) }
+    ensures fault { IfErr result (IsFaultIn V.Ground volume.old (version_for oid.now
+        (ToChange (change_of edit.now) (V.used volume.old) (V.free volume.old)))) }
     ensures leads { V.leads volume.old volume.new }
     ensures cause { HasCause (V.faults volume.old) (V.faults volume.new) result }
 {
@@ -126,7 +128,8 @@ pub fn perform<V: Volume>(
     ensures touches { OnOk result (TouchesAtMost V.Ground volume.old volume.new
         (charge_of update.now)) }
     ensures rooms { ChangesOne rooms.old rooms.new }
-    ensures fault { IfErr result (IsFaultIn V.Ground volume.old (asked_of update.now)) }
+    ensures fault { IfErr result (IsFaultIn V.Ground volume.old
+        (asked_of (V.used volume.old) (V.free volume.old) update.now)) }
     ensures leads { V.leads volume.old volume.new }
     ensures cause { HasCause (V.faults volume.old) (V.faults volume.new) result }
 {

@@ -1,5 +1,5 @@
 -- A damage that a line tells, of the version that it names.
-use Rattle.std.proofs.Common.{◌≡◌, ◌∙◌, Option, Some, None, Result, Ok, Err, sym, ap, subst}
+use Rattle.std.proofs.Common.{◌≡◌, ◌∙◌, ℕ, Option, Some, None, Result, Ok, Err, sym, ap, subst}
 use Rattle.std.specs.Prelude.{IfErr, IfOk, IfSome}
 use Rattle.ex_base.specs.declared.faults.Seen.{Seen}
 use Rattle.ex_base.specs.declared.names.Oid.{Oid}
@@ -14,11 +14,12 @@ use Rattle.session_views.specs.declared.stop.Stop.TheVariants as stop
 use Rattle.volume_port.specs.Reading.{TellsBytes}
 use Rattle.versions.specs.Damage.{IsRootAt}
 use Rattle.session_core.specs.declared.session.objects.Named.{Named}
-use Rattle.session_core.specs.Damage.{IsSessionDamage, TellsDamage, TellsOfFound, image_on, the_version}
+use Rattle.session_core.specs.Damage.{IsSessionDamage, TellsDamage, TellsFor, TellsOfFound, image_on, version_for}
 use Rattle.session_core.specs.Finding.{oid_among}
 use Rattle.session_core.specs.Sessions.{SessionState}
 use Rattle.session_core.specs.Steps.{OnlyFrames}
-use Rattle.session_core.proofs.Damage.{later_damage, shape_damage, wider_damage}
+use Rattle.session_core.proofs.Damage.{later_damage, shape_damage, wider_for}
+use Rattle.volume_edits.specs.Purposes.{Purpose, anyhow}
 use Rattle.transactions.specs.Commands.{IsHonestTo, names_version}
 use Rattle.transactions.specs.Lines.{named_as}
 use Rattle.transactions.proofs.UpdateLines.{admitted_with}
@@ -28,9 +29,10 @@ pub oid_named : (s : SessionState) (x : Reference) (version : Named) (told : Res
 oid_named s x version told is asked = admitted_with (λ (v : Named). oid_among s.names x ≡ Some v.oid) version told is asked
 
 -- what a later call tells that is asked of that version
-pub then_damage : {a b : Outside} {old mid : SessionState} (x : Reference) → OnlyFrames a b old mid → (c : Outside) {oid : Oid} (why : Stop) → oid_among old.names x ≡ Some oid → TellsDamage b c mid (the_version oid) why → TellsDamage a c old (named_as old x) why
-then_damage {a} {b} {old} {mid} x one c {oid} why own is =
-    later_damage old mid one c (named_as old x) why (wider_damage b c mid (the_version oid) (named_as old x) why (λ other same. own ∙ ap (λ (o : Oid). Some o) (sym same)) is)
+pub then_damage : {a b : Outside} {old mid : SessionState} (x : Reference) → OnlyFrames a b old mid → (c : Outside) {oid : Oid} {purpose : Purpose} (why : Stop) → oid_among old.names x ≡ Some oid → TellsFor b c mid (version_for oid purpose) why
+    → TellsDamage a c old (named_as old x) why
+then_damage {a} {b} {old} {mid} x one c {oid} {purpose} why own is =
+    later_damage old mid one c (named_as old x) why (wider_for b c mid (version_for oid purpose) (anyhow (named_as old x)) why (λ other what same. own ∙ ap (λ (o : Oid). Some o) (sym same.0)) is)
 
 -- the root that was found, where there is one, stands in the record of the version
 pub roots_at : (s : SessionState) (w : Outside) (version : Named) (told : Result Named Refusal) → told ≡ Ok version → IfOk told (λ (v : Named). TellsBytes w s.groups → IfSome v.found.root (IsRootAt (image_on w s) v.oid))
@@ -42,10 +44,10 @@ pub rooted_at : (s : SessionState) (w : Outside) (version : Named) (root : Root)
 rooted_at s w version root told is rooted has tells = subst (λ (o : Option Root). IfSome o (IsRootAt (image_on w s) version.oid)) has (roots_at s w version told is rooted tells)
 
 -- what a later call tells that reads the version as it was found
-pub found_damage : {a b : Outside} {old mid : SessionState} (x : Reference) → OnlyFrames a b old mid → (c : Outside) {oid : Oid} (root : Option Root) (why : Stop) → oid_among old.names x ≡ Some oid → (TellsBytes a old.groups → IfSome root (IsRootAt (image_on a old) oid))
-    → TellsOfFound b c mid oid root why → TellsDamage a c old (named_as old x) why
+pub found_damage : {a b : Outside} {old mid : SessionState} (x : Reference) → OnlyFrames a b old mid → (c : Outside) {oid : Oid} {end : ℕ} (root : Option Root) (why : Stop) → oid_among old.names x ≡ Some oid → (TellsBytes a old.groups → IfSome root (IsRootAt (image_on a old) oid))
+    → TellsOfFound b c mid oid end root why → TellsDamage a c old (named_as old x) why
 found_damage x one c None why own at is = then_damage x one c why own is
-found_damage {a} {b} {old} {mid} x one c {oid} (Some root) why own at is = shape_damage old mid one c (named_as old x) root oid why at is
+found_damage {a} {b} {old} {mid} x one c {oid} {end} (Some root) why own at is = shape_damage old mid one c (named_as old x) root oid why at is
 
 -- as a command tells it
 pub damage_as : (a b : Outside) (s : SessionState) (r t : Request) (result : Result Reply Stop) → r ≡ t → (IsHonestTo t a → IfErr result (TellsDamage a b s (names_version s t)))

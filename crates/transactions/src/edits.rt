@@ -10,7 +10,8 @@ ghost use Rattle.session_core.specs.Sessions.{IsSession};
 ghost use Rattle.session_core.specs.Steps.{OnlyFrames};
 ghost use Rattle.table_model.specs.Requests.{reference_of};
 ghost use Rattle.transactions.specs.Editing.{IsAnswered, IsAdmitted, IsWithin, IsNeed, bytes_refusal, edit_need, is_outside, room_refusal};
-ghost use Rattle.session_core.specs.Damage.{TellsDamage, the_version};
+ghost use Rattle.session_core.specs.Damage.{TellsDamage, TellsFor, version_for};
+ghost use Rattle.volume_edits.specs.Purposes.{ToMeasure};
 ghost use Rattle.transactions.specs.Lines.{named_as};
 
 use crate::asked::Asked;
@@ -118,8 +119,8 @@ fn stays_small<D: Disk>(
         ≡ fits_beside before version.now
         (size_after (asked_change asked.now) version.now.found.size))) }
     ensures stops { IfErr result (LineStops (D.outside disk.old) (D.outside disk.new)) }
-    ensures damage { IfErr result (TellsDamage (D.outside disk.old) (D.outside disk.new)
-        session.old (the_version version.now.oid)) }
+    ensures damage { IfErr result (TellsFor (D.outside disk.old) (D.outside disk.new)
+        session.old (version_for version.now.oid ToMeasure)) }
     ensures sound { IfErr result (λ why. IfShown (D.outside disk.old) session.old
         (λ before. IfLive before version.now.oid (λ bytes. IsOutside why))) }
 {

@@ -4,7 +4,8 @@ ghost use Rattle.ex_base.specs.Sizes.{volume_bytes};
 ghost use Rattle.table_model.specs.Machines.{shown};
 ghost use Rattle.table_model.specs.Refusals.{branches_if, is_only_one};
 ghost use Rattle.table_model.specs.Tables.{versions_of};
-ghost use Rattle.session_core.specs.Damage.{TellsDamage, the_version};
+ghost use Rattle.session_core.specs.Damage.{TellsFor, version_for};
+ghost use Rattle.volume_edits.specs.Purposes.{ToRelate};
 ghost use Rattle.session_core.specs.Finding.{IfShown, IsOutside, LineStops, TellsVersion};
 ghost use Rattle.session_core.specs.Steps.{OnlyFrames};
 
@@ -26,8 +27,8 @@ pub(crate) fn is_only_one<H: Host>(
         (λ before. (told : TellsVersion before version.now.oid version.now.found) → alone
         ≡ is_only_one (versions_of (shown before.machine)) (Some told.version))) }
     ensures stops { IfErr result (LineStops (H.outside host.old) (H.outside host.new)) }
-    ensures damage { IfErr result (TellsDamage (H.outside host.old) (H.outside host.new)
-        session.old (the_version version.now.oid)) }
+    ensures damage { IfErr result (TellsFor (H.outside host.old) (H.outside host.new)
+        session.old (version_for version.now.oid ToRelate)) }
     ensures sound { IfErr result (λ why. IfShown (H.outside host.old) session.old
         (λ before. TellsVersion before version.now.oid version.now.found → IsOutside why)) }
 {
@@ -58,8 +59,8 @@ pub(crate) fn branches<H: Host>(
         → told.version.frozen ≡ true → count
         ≡ branches_if (versions_of (shown before.machine)) (Some told.version))) }
     ensures stops { IfErr result (LineStops (H.outside host.old) (H.outside host.new)) }
-    ensures damage { IfErr result (TellsDamage (H.outside host.old) (H.outside host.new)
-        session.old (the_version version.now.oid)) }
+    ensures damage { IfErr result (TellsFor (H.outside host.old) (H.outside host.new)
+        session.old (version_for version.now.oid ToRelate)) }
     ensures sound { IfErr result (λ why. IfShown (H.outside host.old) session.old
         (λ before. TellsVersion before version.now.oid version.now.found → IsOutside why)) }
 {

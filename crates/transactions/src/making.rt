@@ -11,7 +11,8 @@ ghost use Rattle.session_core.specs.Updates.{HasRoomFor, IfUpdated};
 ghost use Rattle.transactions.specs.Editing.{room_refusal};
 ghost use Rattle.transactions.specs.Lines.{WentOn};
 ghost use Rattle.transactions.specs.Making.{MakesVersion, is_bound_if, making_need, number_in, takes_if};
-ghost use Rattle.session_core.specs.Damage.{TellsDamage};
+ghost use Rattle.session_core.specs.Damage.{TellsFor};
+ghost use Rattle.page_alloc.specs.UnitSet.{used_at};
 
 use crate::edits::Need;
 use crate::removal::object_note;
@@ -91,8 +92,8 @@ pub(crate) fn make<H: Host>(
         (TakesLogged session.old.units session.new.units session.new.pages) }
     ensures stops { IfErr result (LineStops (H.outside host.old) (H.outside host.new)) }
     ensures damage { IsTrue (H.outside host.old).honest
-        → IfErr result (TellsDamage (H.outside host.old) (H.outside host.new)
-        session.old (asked_of update.now)) }
+        → IfErr result (TellsFor (H.outside host.old) (H.outside host.new)
+        session.old (asked_of (used_at session.old.units) (free_in session.old) update.now)) }
     ensures sound { IfErr result (λ why. IfUpdated (H.outside host.old) session.old update.now
         (λ before u. HasRoomFor before u → IsOutside why)) }
 {

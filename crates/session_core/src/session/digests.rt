@@ -16,7 +16,8 @@ use volume_port::{MAIN, ReadingPort};
 impl Session {
     ghost use Rattle.session_core.specs.Sessions.{IsSession};
     ghost use Rattle.session_core.specs.Steps.{OnlyFrames};
-    ghost use Rattle.session_core.specs.Damage.{TellsDamage, image_on, the_version, units_on};
+    ghost use Rattle.session_core.specs.Damage.{TellsFor, image_on, units_on, version_for};
+    ghost use Rattle.volume_edits.specs.Purposes.{ToRead};
     ghost use Rattle.versions.specs.Damage.{IsFoundAnd, IsReadThrough};
     ghost use Rattle.volume_port.specs.Reading.{TellsBytes};
     ghost use Rattle.session_core.specs.Finding.{LineStops, IsOutside};
@@ -43,8 +44,8 @@ impl Session {
             (IsReadThrough self.old.geometry (units_on (D.outside disk.old) self.old) 0
             size)) }
         ensures stops { IfErr result (LineStops (D.outside disk.old) (D.outside disk.new)) }
-        ensures damage { IfErr result (TellsDamage (D.outside disk.old) (D.outside disk.new)
-            self.old (the_version oid.now)) }
+        ensures damage { IfErr result (TellsFor (D.outside disk.old) (D.outside disk.new)
+            self.old (version_for oid.now (ToRead size))) }
         ensures sound { IfErr result (λ why. IfShown (D.outside disk.old) self.old
             (λ before. IfLive before oid.now (λ bytes. size ≤ length bytes → IsOutside why))) }
     {

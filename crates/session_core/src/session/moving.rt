@@ -15,7 +15,7 @@ ghost use Rattle.table_model.specs.Machines.{touched_most, updates_most};
 ghost use Rattle.session_core.specs.Performed.{CanPerform, IsCopying, NamesOid, charge_of, asked_of};
 ghost use Rattle.volume_edits.specs.TableUpdates.{updated};
 ghost use Rattle.session_core.specs.Contents.{Shaped, pages_on, pages_over};
-ghost use Rattle.session_core.specs.Damage.{IsFaultAt, IsUpdateFault, TellsDamage};
+ghost use Rattle.session_core.specs.Damage.{IsFaultAt, IsUpdateFault, TellsFor};
 ghost use Rattle.session_core.specs.Finding.{IsOutside, LineStops};
 ghost use Rattle.session_core.specs.Counts.{free_in};
 ghost use Rattle.session_core.specs.Sessions.{SessionState, TakesLogged};
@@ -115,7 +115,8 @@ fn update_parts<'a, D: Disk>(
     ensures fault { (v : VolumeState)
         → HasParts v geometry.now units.old groups.old meta.old pages.old
         → AreReady (D.outside disk.old).size v
-        → IfErr result (IsFaultAt (D.outside disk.old) v (asked_of update.now)) }
+        → IfErr result (IsFaultAt (D.outside disk.old) v (asked_of (used_at v.units)
+        (free_count v.units.geometry (used_at v.units)) update.now)) }
     ensures cause { HasCause (D.outside disk.old).disk_faults
         (D.outside disk.new).disk_faults result }
 {
@@ -166,7 +167,8 @@ fn update_volume<D: Disk>(
         (λ before u. HasRoots before.session gained.old.items lost.old.items
         → HasRoomFor before u → IsDamage fault → ⊥)) }
     ensures fault { IfErr result (IsUpdateFault (D.outside disk.old) (D.outside disk.new)
-        volume.old gained.old.items (asked_of update.now)) }
+        volume.old gained.old.items (asked_of (used_at volume.old.units)
+        (free_count volume.old.units.geometry (used_at volume.old.units)) update.now)) }
     ensures cause { HasCause (D.outside disk.old).disk_faults
         (D.outside disk.new).disk_faults result }
 {
@@ -233,8 +235,8 @@ impl Session {
         ensures given_up { OnErr result (GivenUp self.new) }
         ensures stops { IfErr result (LineStops (H.outside host.old) (H.outside host.new)) }
         ensures damage { IsTrue (H.outside host.old).honest
-            → IfErr result (TellsDamage (H.outside host.old) (H.outside host.new)
-            self.old (asked_of update.now)) }
+            → IfErr result (TellsFor (H.outside host.old) (H.outside host.new)
+            self.old (asked_of (used_at self.old.units) (free_in self.old) update.now)) }
         ensures sound { IfErr result (λ why. IfUpdated (H.outside host.old) self.old update.now
             (λ before u. HasRoomFor before u → IsOutside why)) }
     {

@@ -83,7 +83,8 @@ impl Session {
     ghost use Rattle.session_core.specs.Sessions.{IsSession};
     ghost use Rattle.session_core.specs.Steps.{OnlyFrames};
     ghost use Rattle.versions.specs.Damage.{HasSoundWay, IsFoundAnd, IsReadThrough, IsRootAt, IsWalkedOut};
-    ghost use Rattle.session_core.specs.Damage.{TellsDamage, TellsOfFound, image_on, no_version, the_version, units_on};
+    ghost use Rattle.session_core.specs.Damage.{TellsDamage, TellsFor, TellsOfFound, image_on, no_version, units_on, version_for};
+    ghost use Rattle.volume_edits.specs.Purposes.{ToRead, ToReadSmall};
     ghost use Rattle.session_core.specs.Ways.{IsLookBy, IsLookFor};
     ghost use Rattle.session_core.specs.Finding.{IsNamed, LineStops, IsOutside};
     ghost use Rattle.volume_port.specs.Reading.{TellsBytes};
@@ -193,8 +194,8 @@ impl Session {
             (IsReadThrough self.old.geometry (units_on (D.outside disk.old) self.old) pos
             (length out.old))) }
         ensures stops { IfErr result (LineStops (D.outside disk.old) (D.outside disk.new)) }
-        ensures damage { IfErr result (TellsDamage (D.outside disk.old) (D.outside disk.new)
-            self.old (the_version oid.now)) }
+        ensures damage { IfErr result (TellsFor (D.outside disk.old) (D.outside disk.new)
+            self.old (version_for oid.now (ToRead (pos + length out.old)))) }
         ensures sound { IfErr result (λ why. IfShown (D.outside disk.old) self.old
             (λ before. IfLive before oid.now (λ bytes. pos + length out.old ≤ length bytes
             → IsOutside why))) }
@@ -237,7 +238,7 @@ impl Session {
             (units_on (D.outside disk.old) self.old) pos (length out.old))) }
         ensures stops { IfErr result (LineStops (D.outside disk.old) (D.outside disk.new)) }
         ensures damage { IfErr result (TellsOfFound (D.outside disk.old) (D.outside disk.new)
-            self.old version.now.oid version.now.found.root) }
+            self.old version.now.oid (pos + length out.old) version.now.found.root) }
         ensures sound { IfErr result (λ why. IfShown (D.outside disk.old) self.old
             (λ before. IfFound before version.now (λ bytes. pos + length out.old ≤ length bytes
             → IsOutside why))) }
@@ -265,8 +266,8 @@ impl Session {
             (λ before. IfFound before version.now (λ bytes. out.new
             ≡ bytes_at bytes pos (length out.old)))) }
         ensures stops { IfErr result (LineStops (D.outside disk.old) (D.outside disk.new)) }
-        ensures damage { IfErr result (TellsDamage (D.outside disk.old) (D.outside disk.new)
-            self.old (the_version version.now.oid)) }
+        ensures damage { IfErr result (TellsFor (D.outside disk.old) (D.outside disk.new)
+            self.old (version_for version.now.oid (ToReadSmall (pos + length out.old)))) }
         ensures sound { IfErr result (λ why. IfShown (D.outside disk.old) self.old
             (λ before. IfFound before version.now (λ bytes. pos + length out.old ≤ length bytes
             → IsOutside why))) }

@@ -19,7 +19,8 @@ use table_model::Name;
 
 impl Session {
     ghost use Rattle.session_core.specs.Counts.{free_in};
-    ghost use Rattle.session_core.specs.Damage.{TellsDamage, no_version, the_version};
+    ghost use Rattle.session_core.specs.Damage.{TellsDamage, TellsFor, no_version, version_for};
+    ghost use Rattle.volume_edits.specs.Purposes.{ToRead};
     ghost use Rattle.session_core.specs.Finding.{IfShown, IsOutside, LineStops};
     ghost use Rattle.session_core.specs.Opening.{GivesUnits, IfTold, OpensScan, ShowsThen, closed_at, first_row, with_scan, without_scan};
     ghost use Rattle.session_core.specs.Sessions.{IsSession};
@@ -42,8 +43,8 @@ impl Session {
             (λ before. IfTold before version.now (λ bytes. scan.scan.small ≡ bytes))) }
         ensures rows { AreRows self.old.meta }
         ensures stops { IfErr result (LineStops (D.outside disk.old) (D.outside disk.new)) }
-        ensures damage { IfErr result (TellsDamage (D.outside disk.old) (D.outside disk.new)
-            self.old (the_version version.now.oid)) }
+        ensures damage { IfErr result (TellsFor (D.outside disk.old) (D.outside disk.new)
+            self.old (version_for version.now.oid (ToRead version.now.found.size))) }
         ensures sound { IfErr result (λ why. IfShown (D.outside disk.old) self.old
             (λ before. IfTold before version.now (λ bytes. IsOutside why))) }
     {
@@ -81,8 +82,8 @@ impl Session {
             (λ before. IfTold before version.now (λ bytes. scan.scan.small ≡ bytes))) }
         ensures rows { OnOk result (version.now.found.root ≡ None → AreRows self.old.meta) }
         ensures stops { IfErr result (LineStops (D.outside disk.old) (D.outside disk.new)) }
-        ensures damage { IfErr result (TellsDamage (D.outside disk.old) (D.outside disk.new)
-            self.old (the_version version.now.oid)) }
+        ensures damage { IfErr result (TellsFor (D.outside disk.old) (D.outside disk.new)
+            self.old (version_for version.now.oid (ToRead version.now.found.size))) }
         ensures sound { IfErr result (λ why. IfShown (D.outside disk.old) self.old
             (λ before. IfTold before version.now (λ bytes. IsOutside why))) }
     {
@@ -120,8 +121,8 @@ impl Session {
         ensures stays { OnErr result
             (OnlyFrames (H.outside host.old) (H.outside host.new) self.old self.new) }
         ensures stops { IfErr result (LineStops (H.outside host.old) (H.outside host.new)) }
-        ensures damage { IfErr result (TellsDamage (H.outside host.old) (H.outside host.new)
-            self.old (the_version version.now.oid)) }
+        ensures damage { IfErr result (TellsFor (H.outside host.old) (H.outside host.new)
+            self.old (version_for version.now.oid (ToRead version.now.found.size))) }
         ensures sound { IfErr result (λ why. IfShown (H.outside host.old) self.old
             (λ before. IfTold before version.now (λ bytes. IsOutside why))) }
     {

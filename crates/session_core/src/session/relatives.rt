@@ -4,7 +4,8 @@ ghost use Rattle.ex_base.specs.Ports.{Keeps, HasCause, IsDamage};
 ghost use Rattle.ex_base.specs.Sizes.{volume_bytes};
 ghost use Rattle.session_views.specs.View.{View};
 ghost use Rattle.session_core.specs.Finding.{AreRelatives, oids_if, IfShown, IfVersion, PortShows};
-ghost use Rattle.session_core.specs.Damage.{IsFaultIn, the_version};
+ghost use Rattle.session_core.specs.Damage.{IsFaultIn, version_for};
+ghost use Rattle.volume_edits.specs.Purposes.{ToRelate};
 ghost use Rattle.session_core.specs.Sessions.{SessionState};
 ghost use Rattle.session_core.specs.Ways.{HasReadRelatives};
 
@@ -54,7 +55,8 @@ fn relatives_in<V: ReadVolume>(
         → IfVersion before oid.now (λ version. IfErr result (λ fault. IsDamage fault → ⊥)) }
     ensures way { OnOk result (V.tells volume.old → HasReadRelatives relation
         (V.geometry volume.old) (V.image volume.old) oid.now) }
-    ensures fault { IfErr result (IsFaultIn V.Ground volume.old (the_version oid.now)) }
+    ensures fault { IfErr result (IsFaultIn V.Ground volume.old
+        (version_for oid.now ToRelate)) }
     ensures kept { Keeps V.Ground volume.old volume.new }
     ensures cause { HasCause (V.faults volume.old) (V.faults volume.new) result }
 {
@@ -68,7 +70,7 @@ fn relatives_in<V: ReadVolume>(
 impl Session {
     ghost use Rattle.session_core.specs.Sessions.{IsSession};
     ghost use Rattle.session_core.specs.Steps.{OnlyFrames};
-    ghost use Rattle.session_core.specs.Damage.{TellsDamage, image_on};
+    ghost use Rattle.session_core.specs.Damage.{TellsFor, image_on};
     ghost use Rattle.volume_port.specs.Reading.{TellsBytes};
     ghost use Rattle.session_core.specs.Finding.{LineStops, IsOutside};
 
@@ -90,8 +92,8 @@ impl Session {
             → HasReadRelatives relation self.old.geometry
             (image_on (D.outside disk.old) self.old) oid.now) }
         ensures stops { IfErr result (LineStops (D.outside disk.old) (D.outside disk.new)) }
-        ensures damage { IfErr result (TellsDamage (D.outside disk.old) (D.outside disk.new)
-            self.old (the_version oid.now)) }
+        ensures damage { IfErr result (TellsFor (D.outside disk.old) (D.outside disk.new)
+            self.old (version_for oid.now ToRelate)) }
         ensures sound { IfErr result (λ why. IfShown (D.outside disk.old) self.old
             (λ before. IfVersion before oid.now (λ version. IsOutside why))) }
     {

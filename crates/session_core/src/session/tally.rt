@@ -4,6 +4,7 @@ ghost use Rattle.std.specs.List.{count_by};
 ghost use Rattle.ex_base.specs.Ports.{Keeps, HasCause, IsDamage};
 ghost use Rattle.ex_base.specs.Sizes.{volume_bytes};
 ghost use Rattle.session_core.specs.Damage.{IsFaultIn, no_version};
+ghost use Rattle.volume_edits.specs.Purposes.{anyhow};
 ghost use Rattle.session_core.specs.Finding.{IfFile, IfPortFile};
 ghost use Rattle.session_core.specs.Tallies.{IsTally, is_first};
 
@@ -45,7 +46,7 @@ fn tally_in<V: ReadVolume>(volume: &mut V, alloc: Global, file_no: u32) -> Resul
         (λ before name. IsTally before.machine name tally)) }
     ensures sound { IfErr result (λ fault. IfPortFile V.Ground volume.old file_no
         (λ before name. IsDamage fault → ⊥)) }
-    ensures fault { IfErr result (IsFaultIn V.Ground volume.old no_version) }
+    ensures fault { IfErr result (IsFaultIn V.Ground volume.old (anyhow no_version)) }
     ensures kept { Keeps V.Ground volume.old volume.new }
     ensures cause { HasCause (V.faults volume.old) (V.faults volume.new) result }
 {

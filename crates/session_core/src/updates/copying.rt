@@ -6,8 +6,8 @@ ghost use Rattle.file_bodies.specs.Touches.{body_pages};
 ghost use Rattle.file_index.specs.Taking.{OnlyTakes};
 ghost use Rattle.file_index.specs.Touches.{TouchesAtMost};
 ghost use Rattle.file_rooms.specs.Rooms.{ChangesOne};
-ghost use Rattle.session_core.specs.Damage.{IsFaultIn, the_version};
-ghost use Rattle.session_core.specs.Performed.{copies};
+ghost use Rattle.session_core.specs.Damage.{IsFaultIn, version_for};
+ghost use Rattle.session_core.specs.Performed.{copies, to_copy};
 ghost use Rattle.volume_edits.specs.TableUpdates.{TakesNeed};
 ghost use Rattle.session_core.specs.Performed.{LeavesShaped, Updates};
 
@@ -50,7 +50,8 @@ pub fn copy<V: Volume>(
         (copies copying oid.now unique)) }
     ensures touches { OnOk result (TouchesAtMost V.Ground volume.old volume.new 16) }
     ensures rooms { ChangesOne rooms.old rooms.new }
-    ensures fault { IfErr result (IsFaultIn V.Ground volume.old (the_version oid.now)) }
+    ensures fault { IfErr result (IsFaultIn V.Ground volume.old
+        (version_for oid.now (to_copy copying))) }
     ensures leads { V.leads volume.old volume.new }
     ensures cause { HasCause (V.faults volume.old) (V.faults volume.new) result }
 {

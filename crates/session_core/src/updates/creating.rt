@@ -16,6 +16,7 @@ ghost use Rattle.file_rooms.specs.Rooms.{ChangesOne};
 ghost use Rattle.volume_edits.specs.TableUpdates.{Makes, TakesNeed};
 ghost use Rattle.session_core.specs.Performed.{LeavesShaped, Updates};
 ghost use Rattle.session_core.specs.Damage.{IsFaultIn, no_version};
+ghost use Rattle.volume_edits.specs.Purposes.{anyhow};
 
 use super::Done;
 use ex_base::{Area, PageNo, PortFault, Seen, Volume};
@@ -98,7 +99,7 @@ pub fn create<V: Volume>(
         (Makes name file_no unique)) }
     ensures touches { OnOk result (TouchesAtMost V.Ground volume.old volume.new 16) }
     ensures rooms { ChangesOne rooms.old rooms.new }
-    ensures fault { IfErr result (IsFaultIn V.Ground volume.old no_version) }
+    ensures fault { IfErr result (IsFaultIn V.Ground volume.old (anyhow no_version)) }
     ensures leads { V.leads volume.old volume.new }
     ensures cause { HasCause (V.faults volume.old) (V.faults volume.new) result }
 {

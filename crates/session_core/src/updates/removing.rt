@@ -5,7 +5,8 @@ ghost use Rattle.file_index.specs.Touches.{TouchesAtMost};
 ghost use Rattle.file_rooms.specs.Rooms.{ChangesOne};
 ghost use Rattle.volume_edits.specs.TableUpdates.{Drops, Removes, TakesNeed};
 ghost use Rattle.session_core.specs.Performed.{Updates};
-ghost use Rattle.session_core.specs.Damage.{IsFaultIn, the_version};
+ghost use Rattle.session_core.specs.Damage.{IsFaultIn, version_for};
+ghost use Rattle.volume_edits.specs.Purposes.{ToDrop, ToRemove};
 
 use super::Done;
 use ex_base::{Oid, PortFault, Volume};
@@ -26,7 +27,7 @@ pub fn remove<V: Volume>(
     ensures takes { OnOk result (TakesNeed V.Ground volume.old volume.new (Removes oid.now)) }
     ensures touches { OnOk result (TouchesAtMost V.Ground volume.old volume.new 16) }
     ensures rooms { ChangesOne rooms.old rooms.new }
-    ensures fault { IfErr result (IsFaultIn V.Ground volume.old (the_version oid.now)) }
+    ensures fault { IfErr result (IsFaultIn V.Ground volume.old (version_for oid.now ToRemove)) }
     ensures leads { V.leads volume.old volume.new }
     ensures cause { HasCause (V.faults volume.old) (V.faults volume.new) result }
 {
@@ -56,7 +57,7 @@ pub fn drop_frozen<V: Volume>(
     ensures takes { OnOk result (TakesNeed V.Ground volume.old volume.new (Drops oid.now)) }
     ensures touches { OnOk result (TouchesAtMost V.Ground volume.old volume.new 16) }
     ensures rooms { ChangesOne rooms.old rooms.new }
-    ensures fault { IfErr result (IsFaultIn V.Ground volume.old (the_version oid.now)) }
+    ensures fault { IfErr result (IsFaultIn V.Ground volume.old (version_for oid.now ToDrop)) }
     ensures leads { V.leads volume.old volume.new }
     ensures cause { HasCause (V.faults volume.old) (V.faults volume.new) result }
 {

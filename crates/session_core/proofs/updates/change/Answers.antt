@@ -4,11 +4,12 @@ use Rattle.session_core.proofs.Changed.{change_failed, version_changed}
 use Rattle.session_core.proofs.Followed.{still_updated, still_done, still_touches, change_few}
 use Rattle.versions.proofs.Results.{ok_of}
 use Rattle.volume_edits.proofs.UnitsTaken.{change_taken}
-use Rattle.session_core.specs.Damage.{IsFaultIn, the_version}
+use Rattle.session_core.specs.Damage.{IsFaultIn, version_for}
+use Rattle.volume_edits.specs.Purposes.{ToChange}
 use Rattle.std.proofs.lemmas.Result.{IfErr-weaker}
 use Rattle.std.proofs.Common.{refl, inl, ◌≡◌}
 use Rattle.volume_edits.specs.Damage.{as_it_is, ports_own}
-use Rattle.volume_edits.proofs.Damage.{told_version}
+use Rattle.volume_edits.proofs.Damage.{told_version, unchangeable}
 use Rattle.ex_base.proofs.Handed.{cause_of}
 use Rattle.session_core.specs.declared.updates.Done.{Done}
 use Rattle.session_core.proofs.Contents.{edit_shaped, still_shaped}
@@ -32,10 +33,14 @@ returns-in-Ok-clause-takes g c = ok_of c.look_at.result _
     (change_taken g.V.Ground c.args.volume.now c.apply.new.volume c.look_at.new.volume c.args.oid.now (change_of c.args.edit.now) c.in-Ok.ensures.small c.in-Ok.ensures.free c.look_at.ensures.kept.free)
 
 pub returns-in-Ok-clause-fault : goal.returns-in-Ok-clause-fault
-returns-in-Ok-clause-fault g c = IfErr-weaker c.look_at.result _ (IsFaultIn g.V.Ground c.args.volume.now (the_version c.args.oid.now)) (λ fault never told. as_it_is (ports_own never)) c.look_at.ensures.no_damage
+returns-in-Ok-clause-fault g c = IfErr-weaker c.look_at.result _ (IsFaultIn g.V.Ground c.args.volume.now (version_for c.args.oid.now (ToChange (change_of c.args.edit.now) (g.V.Ground.used c.args.volume.now) (g.V.Ground.free c.args.volume.now)))) (λ fault never told. as_it_is (ports_own never)) c.look_at.ensures.no_damage
 
 pub returns-in-Err-clause-fault : goal.returns-in-Err-clause-fault
-returns-in-Err-clause-fault g c = λ told. as_it_is (told_version _ _ _ _ (the_version c.args.oid.now) c.args.oid.now c.in-Err.fault refl (c.in-Err.ensures.fault told))
+returns-in-Err-clause-fault g c = λ told.
+    let old = c.args.volume.now in
+    let change = change_of c.args.edit.now in
+    let purpose = ToChange change (g.V.Ground.used old) (g.V.Ground.free old) in
+    as_it_is (told_version _ _ _ _ (version_for c.args.oid.now purpose) c.args.oid.now purpose c.in-Err.fault (refl, refl) (unchangeable g.V.Ground old c.args.oid.now change) (c.in-Err.ensures.fault told))
 
 pub look_at-requires : goal.look_at-requires
 look_at-requires g c = g.V.Ground.leads_ready c.args.volume.now c.apply.new.volume c.apply.ensures.leads c.requires

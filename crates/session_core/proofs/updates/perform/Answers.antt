@@ -16,19 +16,19 @@ returns-in-Create-clause-takes g c = λ u is.
     subst (λ (w : TableUpdate). OnOk c.create.result (TakesNeed g.V.Ground c.args.volume.now c.create.new.volume w)) (sym made.1) (c.create.ensures.takes made.0)
 
 pub returns-in-Create-clause-fault : goal.returns-in-Create-clause-fault
-returns-in-Create-clause-fault g c = subst (λ (update : ObjectUpdate). IfErr c.create.result (IsFaultIn g.V.Ground c.args.volume.now (asked_of update))) (sym c.in-Create.is) c.create.ensures.fault
+returns-in-Create-clause-fault g c = subst (λ (update : ObjectUpdate). IfErr c.create.result (IsFaultIn g.V.Ground c.args.volume.now (asked_of (g.V.Ground.used c.args.volume.now) (g.V.Ground.free c.args.volume.now) update))) (sym c.in-Create.is) c.create.ensures.fault
 
 pub returns-in-Change-clause-fault : goal.returns-in-Change-clause-fault
-returns-in-Change-clause-fault g c = subst (λ (update : ObjectUpdate). IfErr c.change.result (IsFaultIn g.V.Ground c.args.volume.now (asked_of update))) (sym c.in-Change.is) c.change.ensures.fault
+returns-in-Change-clause-fault g c = subst (λ (update : ObjectUpdate). IfErr c.change.result (IsFaultIn g.V.Ground c.args.volume.now (asked_of (g.V.Ground.used c.args.volume.now) (g.V.Ground.free c.args.volume.now) update))) (sym c.in-Change.is) c.change.ensures.fault
 
 pub returns-in-Remove-clause-fault : goal.returns-in-Remove-clause-fault
-returns-in-Remove-clause-fault g c = subst (λ (update : ObjectUpdate). IfErr c.remove.result (IsFaultIn g.V.Ground c.args.volume.now (asked_of update))) (sym c.in-Remove.is) c.remove.ensures.fault
+returns-in-Remove-clause-fault g c = subst (λ (update : ObjectUpdate). IfErr c.remove.result (IsFaultIn g.V.Ground c.args.volume.now (asked_of (g.V.Ground.used c.args.volume.now) (g.V.Ground.free c.args.volume.now) update))) (sym c.in-Remove.is) c.remove.ensures.fault
 
 pub returns-in-Copy-clause-fault : goal.returns-in-Copy-clause-fault
-returns-in-Copy-clause-fault g c = subst (λ (update : ObjectUpdate). IfErr c.copy.result (IsFaultIn g.V.Ground c.args.volume.now (asked_of update))) (sym c.in-Copy.is) c.copy.ensures.fault
+returns-in-Copy-clause-fault g c = subst (λ (update : ObjectUpdate). IfErr c.copy.result (IsFaultIn g.V.Ground c.args.volume.now (asked_of (g.V.Ground.used c.args.volume.now) (g.V.Ground.free c.args.volume.now) update))) (sym c.in-Copy.is) c.copy.ensures.fault
 
 pub returns-in-Drop-clause-fault : goal.returns-in-Drop-clause-fault
-returns-in-Drop-clause-fault g c = subst (λ (update : ObjectUpdate). IfErr c.drop_frozen.result (IsFaultIn g.V.Ground c.args.volume.now (asked_of update))) (sym c.in-Drop.is) c.drop_frozen.ensures.fault
+returns-in-Drop-clause-fault g c = subst (λ (update : ObjectUpdate). IfErr c.drop_frozen.result (IsFaultIn g.V.Ground c.args.volume.now (asked_of (g.V.Ground.used c.args.volume.now) (g.V.Ground.free c.args.volume.now) update))) (sym c.in-Drop.is) c.drop_frozen.ensures.fault
 
 -- ---- what else is promised
 

@@ -10,8 +10,9 @@ use Rattle.session_core.specs.Finding.{IsFound}
 use Rattle.session_core.proofs.Naming.{frames_twice}
 use Rattle.session_core.proofs.Quiet.{same_view, with_groups}
 use Rattle.transactions.proofs.OnlyOne.{first_listed, is_derived, never_missing, none_listed, only_told}
-use Rattle.session_core.specs.Damage.{the_version}
-use Rattle.session_core.proofs.Damage.{later_damage, none_wider}
+use Rattle.session_core.specs.Damage.{version_for}
+use Rattle.volume_edits.specs.Purposes.{ToRelate}
+use Rattle.session_core.proofs.Damage.{later_for, none_for}
 use Rattle.transactions.proofs.lineage.is_only_one.Goals as goal
 
 pub returns-in_err-oids-clause-sound : goal.returns-in_err-oids-clause-sound
@@ -57,11 +58,11 @@ returns-clause-alone g c = λ before same now told.
 
 pub returns-in_err-found-clause-damage : goal.returns-in_err-found-clause-damage
 returns-in_err-found-clause-damage g c =
-    let own = the_version c.args.version.now.oid in
+    let own = version_for c.args.version.now.oid ToRelate in
     let mid = g.H.World.outside c.relatives.new.disk in
     let b = g.H.World.outside c.find_version.new.disk in
     if_err_handed c.from_residual-in_err-found.result _ _ c.from_residual-in_err-found.ensures.1
-    (later_damage c.args.session.now c.relatives.new.self c.relatives.ensures.only b own _ (none_wider mid b c.relatives.new.self own _ c.in_err-found.ensures.damage))
+    (later_for c.args.session.now c.relatives.new.self c.relatives.ensures.only b own _ (none_for mid b c.relatives.new.self own _ c.in_err-found.ensures.damage))
 
 pub returns-then-is_none-clause-only : goal.returns-then-is_none-clause-only
 returns-then-is_none-clause-only g c = nothing_changed _ _

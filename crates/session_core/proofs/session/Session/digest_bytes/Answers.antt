@@ -4,7 +4,8 @@ use Rattle.session_core.proofs.Digests.{of_all}
 use Rattle.session_core.specs.contracts.session.Session as session
 use Rattle.session_core.proofs.Finding.{frames_left, frames_to, held_version, no_damage, only_reads, over_session, port_shows, read_session, reads_live, told_err, told_ok}
 use Rattle.session_core.proofs.Damage.{damage_told}
-use Rattle.session_core.specs.Damage.{the_version}
+use Rattle.session_core.specs.Damage.{version_for}
+use Rattle.volume_edits.specs.Purposes.{ToRead}
 use Rattle.volume_edits.proofs.Damage.{told_version}
 use Rattle.volume_edits.specs.Damage.{as_it_is}
 use Rattle.session_core.proofs.Sessions.{main_read, seen}
@@ -42,8 +43,9 @@ pub returns-clause-damage : goal.returns-clause-damage
 returns-clause-damage g c =
     let w = g.D.World.outside c.args.disk.now in
     let over = over_session c.digest_at.ensures.kept w c.self.view_is c.self.invariant refl refl refl refl (λ h. h) in
-    damage_told _ _ _ (the_version c.args.oid.now) c.digest_at.result c.or_stop.result c.or_stop.ensures over
-    (IfErr-weaker c.digest_at.result _ _ (λ fault is told. as_it_is (told_version _ _ _ _ (the_version c.args.oid.now) c.args.oid.now fault refl (is told))) c.digest_at.ensures.fault)
+    let purpose = ToRead c.args.size in
+    damage_told _ _ _ (version_for c.args.oid.now purpose) c.digest_at.result c.or_stop.result c.or_stop.ensures over
+    (IfErr-weaker c.digest_at.result _ _ (λ fault is told. as_it_is (told_version _ _ _ _ (version_for c.args.oid.now purpose) c.args.oid.now purpose fault (refl, refl) (λ unfit. unfit) (is told))) c.digest_at.ensures.fault)
 
 pub digest_at-requires-clause-ready : goal.digest_at-requires-clause-ready
 digest_at-requires-clause-ready g c = main_read (session.the_view c.self.inside) c.args.self.now (g.D.World.outside c.args.disk.now).size c.self.view_is c.self.invariant c.requires.room

@@ -3,6 +3,7 @@ use Rattle.std.proofs.lemmas.Result.{IfErr-weaker}
 use Rattle.versions.specs.Versions.{place_of}
 use Rattle.volume_edits.proofs.Damage.{told_finding}
 use Rattle.session_core.specs.Damage.{no_version}
+use Rattle.volume_edits.specs.Purposes.{anyhow}
 use Rattle.session_core.proofs.Damage.{damage_told, roots_found}
 use Rattle.session_core.specs.Finding.{IsFound, IsOutside, stop_at}
 use Rattle.session_core.specs.contracts.session.Session as session
@@ -42,8 +43,8 @@ pub returns-clause-damage : goal.returns-clause-damage
 returns-clause-damage g c =
     let w = g.D.World.outside c.args.disk.now in
     let over = over_session c.find.ensures.kept w c.self.view_is c.self.invariant refl refl refl refl (λ h. h) in
-    damage_told _ _ _ no_version c.find.result c.or_stop.result c.or_stop.ensures over
-    (IfErr-weaker c.find.result _ _ (λ fault is told. as_it_is (told_finding _ _ _ _ no_version c.args.oid.now fault (is told))) c.find.ensures.fault)
+    damage_told _ _ _ (anyhow no_version) c.find.result c.or_stop.result c.or_stop.ensures over
+    (IfErr-weaker c.find.result _ _ (λ fault is told. as_it_is (told_finding _ _ _ _ (anyhow no_version) c.args.oid.now fault (is told))) c.find.ensures.fault)
 
 pub returns-clause-rooted : goal.returns-clause-rooted
 returns-clause-rooted g c =

@@ -5,6 +5,7 @@ use Rattle.session_core.specs.contracts.session.Session as session
 use Rattle.session_core.proofs.Finding.{frames_left, frames_to, no_damage, only_reads, over_session, read_session, told_err, told_ok}
 use Rattle.session_core.proofs.Damage.{damage_told}
 use Rattle.session_core.specs.Damage.{no_version}
+use Rattle.volume_edits.specs.Purposes.{anyhow}
 use Rattle.volume_edits.specs.Damage.{as_it_is, of_walk}
 use Rattle.session_core.proofs.Sessions.{main_read, seen}
 use Rattle.versions.specs.Damage.{IsWalkedOut}
@@ -35,7 +36,7 @@ pub returns-clause-damage : goal.returns-clause-damage
 returns-clause-damage g c =
     let w = g.D.World.outside c.args.disk.now in
     let over = over_session c.objects.ensures.kept w c.self.view_is c.self.invariant refl refl refl refl (λ h. h) in
-    damage_told _ _ _ no_version c.objects.result c.or_stop.result c.or_stop.ensures over
+    damage_told _ _ _ (anyhow no_version) c.objects.result c.or_stop.result c.or_stop.ensures over
     (IfErr-weaker c.objects.result _ _ (λ fault is told. as_it_is (of_walk c.args.file_no (is told))) c.objects.ensures.fault)
 
 pub objects-requires : goal.objects-requires

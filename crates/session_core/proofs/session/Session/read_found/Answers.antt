@@ -1,4 +1,4 @@
-use Rattle.std.proofs.Common.{◌∙◌, sym, Option, subst}
+use Rattle.std.proofs.Common.{◌∙◌, ◌+◌, sym, Option, subst}
 use Rattle.std.proofs.lemmas.Result.{IfErr-weaker, on_ok_weaker}
 use Rattle.std.specs.Prelude.{IfErr, IfSome, OnOk, length}
 use Rattle.ex_base.specs.declared.names.Root.{Root}
@@ -23,11 +23,11 @@ returns-in-None-clause-sound g c = c.read_record.ensures.sound
 
 pub returns-in-Some-clause-damage : goal.returns-in-Some-clause-damage
 returns-in-Some-clause-damage g c =
-    subst (λ (root : Option Root). IfErr c.read_tree.result (TellsOfFound (g.D.World.outside c.args.disk.now) (g.D.World.outside c.read_tree.new.disk) c.args.self.now c.args.version.now.oid root)) (sym c.in-Some.is) c.read_tree.ensures.damage
+    subst (λ (root : Option Root). IfErr c.read_tree.result (TellsOfFound (g.D.World.outside c.args.disk.now) (g.D.World.outside c.read_tree.new.disk) c.args.self.now c.args.version.now.oid (c.args.pos + length c.args.out.now) root)) (sym c.in-Some.is) c.read_tree.ensures.damage
 
 pub returns-in-None-clause-damage : goal.returns-in-None-clause-damage
 returns-in-None-clause-damage g c =
-    subst (λ (root : Option Root). IfErr c.read_record.result (TellsOfFound (g.D.World.outside c.args.disk.now) (g.D.World.outside c.read_record.new.disk) c.args.self.now c.args.version.now.oid root)) (sym c.in-None.is) c.read_record.ensures.damage
+    subst (λ (root : Option Root). IfErr c.read_record.result (TellsOfFound (g.D.World.outside c.args.disk.now) (g.D.World.outside c.read_record.new.disk) c.args.self.now c.args.version.now.oid (c.args.pos + length c.args.out.now) root)) (sym c.in-None.is) c.read_record.ensures.damage
 
 pub returns-in-Some-clause-way : goal.returns-in-Some-clause-way
 returns-in-Some-clause-way g c =

@@ -6,7 +6,8 @@ use Rattle.session_core.proofs.Relatives.{error_version, ok_version}
 use Rattle.session_core.specs.contracts.session.Session as session
 use Rattle.session_core.proofs.Finding.{frames_left, frames_to, no_damage, only_reads, over_session, port_shows, read_session, told_err, told_ok}
 use Rattle.session_core.proofs.Damage.{damage_told}
-use Rattle.session_core.specs.Damage.{the_version}
+use Rattle.session_core.specs.Damage.{version_for}
+use Rattle.volume_edits.specs.Purposes.{ToRelate}
 use Rattle.session_core.proofs.Sessions.{main_read, seen}
 use Rattle.session_core.specs.Ways.{HasReadRelatives}
 use Rattle.session_core.proofs.Ways.{way_passed}
@@ -37,7 +38,7 @@ pub returns-clause-damage : goal.returns-clause-damage
 returns-clause-damage g c =
     let w = g.D.World.outside c.args.disk.now in
     let over = over_session c.relatives_in.ensures.kept w c.self.view_is c.self.invariant refl refl refl refl (λ h. h) in
-    damage_told _ _ _ (the_version c.args.oid.now) c.relatives_in.result c.or_stop.result c.or_stop.ensures over
+    damage_told _ _ _ (version_for c.args.oid.now ToRelate) c.relatives_in.result c.or_stop.result c.or_stop.ensures over
     c.relatives_in.ensures.fault
 
 pub relatives_in-requires : goal.relatives_in-requires

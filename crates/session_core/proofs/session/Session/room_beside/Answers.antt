@@ -5,7 +5,8 @@ use Rattle.session_core.proofs.Beside.{error_live, room_is, room_sound}
 use Rattle.session_core.specs.contracts.session.Session as session
 use Rattle.session_core.proofs.Finding.{frames_left, frames_to, no_damage, ok_shown, only_reads, over_session, port_shows, read_session, told_err, told_ok}
 use Rattle.session_core.proofs.Damage.{both_errors, damage_told, room_over}
-use Rattle.session_core.specs.Damage.{the_version}
+use Rattle.session_core.specs.Damage.{version_for}
+use Rattle.volume_edits.specs.Purposes.{ToMeasure}
 use Rattle.volume_edits.specs.Damage.{as_it_is}
 use Rattle.session_core.proofs.Sessions.{main_read, seen}
 use Rattle.session_core.proofs.session.Session.room_beside.Goals as goal
@@ -35,7 +36,7 @@ pub returns-clause-damage : goal.returns-clause-damage
 returns-clause-damage g c =
     let w = g.D.World.outside c.args.disk.now in
     let over = over_session c.room_at.ensures.kept w c.self.view_is c.self.invariant refl refl refl refl (λ h. h) in
-    damage_told _ _ _ (the_version c.args.oid.now) c.room_at.result c.or_stop.result c.or_stop.ensures over
+    damage_told _ _ _ (version_for c.args.oid.now ToMeasure) c.room_at.result c.or_stop.result c.or_stop.ensures over
     (both_errors c.room_at.result _ _ _ c.room_at.ensures.fault c.room_at.ensures.sound (λ fault is isnt told. as_it_is (room_over _ _ _ _ c.args.oid.now fault is (λ some. isnt some told))))
 
 pub room_at-requires : goal.room_at-requires

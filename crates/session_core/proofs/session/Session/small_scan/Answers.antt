@@ -1,4 +1,6 @@
-use Rattle.std.proofs.Common.{◌≡◌, length, ap, arith, subst}
+use Rattle.std.proofs.Common.{◌≡◌, ◌+◌, ℕ, length, ap, arith, subst}
+use Rattle.session_core.specs.Damage.{TellsFor, version_for}
+use Rattle.volume_edits.specs.Purposes.{ToRead}
 use Rattle.std.specs.Prelude.{drop}
 use Rattle.open_scans.specs.OpenScans.{OpenRow}
 use Rattle.session_core.proofs.Opening.{all_read}
@@ -11,6 +13,11 @@ pub returns-in-Err-clause-sound : goal.returns-in-Err-clause-sound
 returns-in-Err-clause-sound g c = λ before same now told.
     let long : length c.deref_mut.result.now ≡ c.args.version.now.found.size = omega (arith, c.deref_mut.ensures.len, c.in-Ok.ensures.len, ap length c.deref_mut.ensures.value) in
     c.in-Err.ensures.sound before same now told.version told.is (omega (arith, long, told.size))
+
+pub returns-in-Err-clause-damage : goal.returns-in-Err-clause-damage
+returns-in-Err-clause-damage g c =
+    let long : 0 + length c.deref_mut.result.now ≡ c.args.version.now.found.size = omega (arith, c.deref_mut.ensures.len, c.in-Ok.ensures.len, ap length c.deref_mut.ensures.value) in
+    subst (λ (n : ℕ). TellsFor (g.D.World.outside c.args.disk.now) (g.D.World.outside c.read_bytes.new.disk) c.args.self.now (version_for c.args.version.now.oid (ToRead n)) c.in-Err.stop) long c.in-Err.ensures.damage
 
 pub returns-in-Ok-of_small-clause-bytes : goal.returns-in-Ok-of_small-clause-bytes
 returns-in-Ok-of_small-clause-bytes g c = λ before same now told.

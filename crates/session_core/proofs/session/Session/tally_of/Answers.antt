@@ -5,6 +5,7 @@ use Rattle.session_core.specs.contracts.session.Session as session
 use Rattle.session_core.proofs.Finding.{frames_left, frames_to, no_damage, only_reads, over_session, read_session, told_err, told_ok}
 use Rattle.session_core.proofs.Damage.{damage_told}
 use Rattle.session_core.specs.Damage.{no_version}
+use Rattle.volume_edits.specs.Purposes.{anyhow}
 use Rattle.session_core.proofs.Sessions.{main_read, seen}
 use Rattle.session_core.proofs.session.Session.tally_of.Goals as goal
 
@@ -31,7 +32,7 @@ pub returns-clause-damage : goal.returns-clause-damage
 returns-clause-damage g c =
     let w = g.D.World.outside c.args.disk.now in
     let over = over_session c.tally_in.ensures.kept w c.self.view_is c.self.invariant refl refl refl refl (λ h. h) in
-    damage_told _ _ _ no_version c.tally_in.result c.or_stop.result c.or_stop.ensures over
+    damage_told _ _ _ (anyhow no_version) c.tally_in.result c.or_stop.result c.or_stop.ensures over
     c.tally_in.ensures.fault
 
 pub tally_in-requires : goal.tally_in-requires

@@ -21,7 +21,8 @@ use Rattle.session_core.specs.declared.updates.Done.{Done}
 use Rattle.session_core.proofs.Finding.{no_damage}
 use Rattle.session_core.proofs.Moved.{at_oid, given_up_at, has_roots, has_seen, moments_of, moved_session, moved_to, note_with_oid, noted_so, on_err, session_ready, when_done, none_answered}
 use Rattle.session_core.proofs.session.Session.update_objects.Goals.{else-is_ok-via-then-is_ok+else-is_ok-2, else-is_ok-via-else-is_ok, in-Err, in-Ok}
-use Rattle.session_core.specs.Damage.{IsUpdateFault, TellsDamage}
+use Rattle.session_core.specs.Damage.{IsUpdateFault, TellsFor}
+use Rattle.page_alloc.specs.UnitSet.{used_at}
 use Rattle.session_core.proofs.UpdateDamage.{update_told}
 use Rattle.ex_base.specs.declared.geometry.Geometry.{Geometry}
 use Rattle.session_core.specs.Contents.{Shaped, pages_on, pages_over}
@@ -149,13 +150,13 @@ returns-clause-damage g c =
     let outside = g.H.World.outside in
     let s = session.the_view c.self.inside in
     let b = outside c.update_volume-done.new.disk in
-    let asked = asked_of c.args.update.now in
-    let stops = λ (r : Result Oid Stop). IfErr r (TellsDamage (outside c.args.host.now) b c.args.self.now asked) in
+    let asked = λ (t : SessionState). asked_of (used_at t.units) (free_in t) c.args.update.now in
+    let stops = λ (r : Result Oid Stop). IfErr r (TellsFor (outside c.args.host.now) b c.args.self.now (asked c.args.self.now)) in
     λ honest. elim c.match-done.branch [
       | in-Ok w ↦ subst stops (sym w.result-is) tt
       | in-Err w ↦ subst stops (sym w.result-is)
-          (let told = subst (λ (r : Result Done PortFault). IfErr r (IsUpdateFault (outside c.args.host.now) b c.self.inside.volume s.gained asked)) w.in-Err.is c.update_volume-done.ensures.fault in
-          subst (λ (t : SessionState). TellsDamage (outside c.args.host.now) b t asked w.stopped.result) c.self.view_is (update_told (outside c.args.host.now) b s asked w.in-Err.fault w.stopped.result w.stopped.ensures told honest))
+          (let told = subst (λ (r : Result Done PortFault). IfErr r (IsUpdateFault (outside c.args.host.now) b c.self.inside.volume s.gained (asked s))) w.in-Err.is c.update_volume-done.ensures.fault in
+          subst (λ (t : SessionState). TellsFor (outside c.args.host.now) b t (asked t) w.stopped.result) c.self.view_is (update_told (outside c.args.host.now) b s (asked s) w.in-Err.fault w.stopped.result w.stopped.ensures told honest))
     ]
 
 pub returns-clause-named : goal.returns-clause-named

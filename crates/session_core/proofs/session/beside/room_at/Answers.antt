@@ -6,7 +6,7 @@ use Rattle.ex_base.proofs.Results.{if_err_handed}
 use Rattle.session_core.proofs.session.beside.room_at.Goals as goal
 
 pub returns-then-not-in_area-clause-cause : goal.returns-then-not-in_area-clause-cause
-returns-then-not-in_area-clause-cause g c = c.no_file_page.ensures.cause (g.P.Ground.faults c.args.pages.now) (g.P.Ground.faults c.args.pages.now)
+returns-then-not-in_area-clause-cause g c = c.no_record.ensures.cause (g.P.Ground.faults c.args.pages.now) (g.P.Ground.faults c.args.pages.now)
 
 pub returns-in-Some-clause-room : goal.returns-in-Some-clause-room
 returns-in-Some-clause-room g c = λ tells.
@@ -14,7 +14,7 @@ returns-in-Some-clause-room g c = λ tells.
     (c.room.ensures ∙ ap (λ (n : ℕ). room_of n c.in-Some.view.page.slots) (c.in-Some.ensures.found.0 ∙ c.in_ok-get.ensures.len)) c.in-Some.ensures.found.1 (c.in_ok-get.ensures.bytes tells)
 
 pub returns-in-None-clause-cause : goal.returns-in-None-clause-cause
-returns-in-None-clause-cause g c = c.no_file_page-in-None.ensures.cause (g.P.Ground.faults c.args.pages.now) (g.P.Ground.faults c.get.follows.lender-at-none)
+returns-in-None-clause-cause g c = c.no_record-in-None.ensures.cause (g.P.Ground.faults c.args.pages.now) (g.P.Ground.faults c.get.follows.lender-at-none)
 
 pub returns-then-not-in_area-clause-kept : goal.returns-then-not-in_area-clause-kept
 returns-then-not-in_area-clause-kept g c = keeps_refl g.P.Ground c.args.pages.now

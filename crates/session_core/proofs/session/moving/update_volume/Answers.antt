@@ -94,7 +94,7 @@ returns-in_err-turn_roots-clause-fault g c =
     let outside = g.D.World.outside in
     let has : HasParts v v.geometry v.units v.groups v.meta v.pages = record { geometry = refl; parts = refl } in
     if_err_handed c.from_residual-in_err-turn_roots.result _ _ c.from_residual-in_err-turn_roots.ensures.1
-    (turned_fault (outside c.args.disk.now) (outside u.disk) (outside c.turn_roots.new.disk) v u.groups c.args.gained.now.items (asked_of c.args.update.now) _ c.turn_roots.ensures.gives.only.nothing.disk (c.update_parts.ensures.moved v has c.requires.ready).told c.in_err-turn_roots.ensures.fault)
+    (turned_fault (outside c.args.disk.now) (outside u.disk) (outside c.turn_roots.new.disk) v u.groups c.args.gained.now.items (asked_of (used_at v.units) (free_count v.units.geometry (used_at v.units)) c.args.update.now) _ c.turn_roots.ensures.gives.only.nothing.disk (c.update_parts.ensures.moved v has c.requires.ready).told c.in_err-turn_roots.ensures.fault)
 
 pub returns-in_err-turn_roots-clause-sound : goal.returns-in_err-turn_roots-clause-sound
 returns-in_err-turn_roots-clause-sound g c =

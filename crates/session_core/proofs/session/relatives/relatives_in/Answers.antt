@@ -4,7 +4,8 @@ use Rattle.std.proofs.lemmas.Result.{IfErr-weaker, IfOk-weaker}
 use Rattle.ex_base.proofs.Results.{if_err_handed, if_ok_both}
 use Rattle.volume_edits.specs.Damage.{as_it_is}
 use Rattle.volume_edits.proofs.Damage.{told_derived, told_older, told_versions}
-use Rattle.session_core.specs.Damage.{the_version}
+use Rattle.session_core.specs.Damage.{version_for}
+use Rattle.volume_edits.specs.Purposes.{ToRelate}
 use Rattle.session_core.specs.Ways.{HasReadRelatives}
 use Rattle.session_core.specs.Finding.{AreRelatives}
 use Rattle.session_core.specs.declared.session.relatives.Relation.{Relation}
@@ -46,14 +47,14 @@ returns-in_ok-listed-in-Older-clause-oids g c = λ before shows version is.
     (older_listed g.V.Ground c.args.volume.now shows c.args.oid.now version is c.in_ok-older-in-Older.field-0 c.in_ok-listed-in-Older.field-0.items c.in_ok-listed-in-Older.ensures c.in_ok-older-in-Older.ensures.told)
 
 pub returns-in-Object-clause-fault : goal.returns-in-Object-clause-fault
-returns-in-Object-clause-fault g c = IfErr-weaker c.versions.result _ _ (λ fault is told. as_it_is (told_versions _ _ (the_version c.args.oid.now) c.args.oid.now fault refl (is told))) c.versions.ensures.fault
+returns-in-Object-clause-fault g c = IfErr-weaker c.versions.result _ _ (λ fault is told. as_it_is (told_versions _ _ (version_for c.args.oid.now ToRelate) c.args.oid.now fault (refl, refl) (is told))) c.versions.ensures.fault
 
 pub returns-in-Derived-clause-fault : goal.returns-in-Derived-clause-fault
-returns-in-Derived-clause-fault g c = IfErr-weaker c.derived.result _ _ (λ fault is told. as_it_is (told_derived _ _ (the_version c.args.oid.now) c.args.oid.now fault refl (is told))) c.derived.ensures.fault
+returns-in-Derived-clause-fault g c = IfErr-weaker c.derived.result _ _ (λ fault is told. as_it_is (told_derived _ _ (version_for c.args.oid.now ToRelate) c.args.oid.now fault (refl, refl) (is told))) c.derived.ensures.fault
 
 pub returns-in_err-older-in-Older-clause-fault : goal.returns-in_err-older-in-Older-clause-fault
 returns-in_err-older-in-Older-clause-fault g c = if_err_handed c.from_residual.result _ _ c.from_residual.ensures.1
-    (λ told. as_it_is (told_older _ _ (the_version c.args.oid.now) c.args.oid.now _ refl (c.in_err-older-in-Older.ensures.fault told)))
+    (λ told. as_it_is (told_older _ _ (version_for c.args.oid.now ToRelate) c.args.oid.now _ (refl, refl) (c.in_err-older-in-Older.ensures.fault told)))
 
 pub returns-in-Object-clause-way : goal.returns-in-Object-clause-way
 returns-in-Object-clause-way g c =

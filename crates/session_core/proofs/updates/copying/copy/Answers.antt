@@ -1,4 +1,4 @@
-use Rattle.std.proofs.Common.{◌≡◌, ◌∙◌, ℕ, List, None, sym, subst, refl, ◌+◌, ◌≤◌, inl}
+use Rattle.std.proofs.Common.{◌≡◌, ◌∙◌, ap, ℕ, List, None, sym, subst, refl, ◌+◌, ◌≤◌, inl}
 use Rattle.std.specs.Prelude.{Ok, Err}
 use Rattle.ex_base.specs.declared.names.Place.{Place}
 use Rattle.ex_base.specs.Ports.{IsDamage, Cause}
@@ -8,9 +8,9 @@ use Rattle.std.proofs.lemmas.Result.{IfErr-at_err, IfErr-weaker, IfOk-at_ok, err
 use Rattle.ex_base.proofs.Results.{from_ok}
 use Rattle.session_core.specs.declared.updates.copying.Copying.{Copying}
 use Rattle.session_core.specs.declared.updates.copying.Copying.TheVariants as copying
-use Rattle.session_core.specs.Performed.{copies}
+use Rattle.session_core.specs.Performed.{copies, to_copy}
 use Rattle.session_core.specs.Performed.{Updates}
-use Rattle.session_core.proofs.Copied.{copy_taken, derive_failed, derived_made, freeze_failed, frozen_made, uncounted, unfiled}
+use Rattle.session_core.proofs.Copied.{copy_taken, derive_failed, derived_made, filed_later, freeze_failed, frozen_made, uncopied_off, uncounted, unfiled}
 use Rattle.session_core.proofs.Followed.{still_taken, still_updated, copied_few, still_done, still_touches, touches_on}
 use Rattle.file_rooms.specs.Rooms.{ChangesOne}
 use Rattle.volume_edits.specs.Damage.{ports_own}
@@ -21,7 +21,7 @@ use Rattle.ex_base.proofs.Results.{if_err_handed}
 use Rattle.version_tree.specs.Links.{IsStartFault}
 use Rattle.volume_edits.specs.Damage.{as_it_is}
 use Rattle.volume_edits.proofs.Damage.{after_count, after_reading, told_catalog, told_derive, told_freeze, told_start}
-use Rattle.session_core.specs.Damage.{IsFaultIn, the_version}
+use Rattle.session_core.specs.Damage.{IsFaultIn, version_for}
 use Rattle.ex_base.specs.declared.names.Area.{Area}
 use Rattle.ex_base.specs.declared.names.Area.TheVariants.{Page}
 use Rattle.ex_base.proofs.Handed.{cause_after, cause_of, handed_after}
@@ -113,19 +113,20 @@ pub returns-in-Ok-clause-rooms : goal.returns-in-Ok-clause-rooms
 returns-in-Ok-clause-rooms g c = subst (ChangesOne c.args.rooms.now) (sym c.look_at.ensures.rooms) c.keep_copy.ensures
 
 pub returns-in-Ok-clause-fault : goal.returns-in-Ok-clause-fault
-returns-in-Ok-clause-fault g c = IfErr-weaker c.look_at.result _ (IsFaultIn g.V.Ground c.args.volume.now (the_version c.args.oid.now)) (λ fault never told. as_it_is (ports_own never)) c.look_at.ensures.no_damage
+returns-in-Ok-clause-fault g c = IfErr-weaker c.look_at.result _ (IsFaultIn g.V.Ground c.args.volume.now (version_for c.args.oid.now (to_copy c.args.copying))) (λ fault never told. as_it_is (ports_own never)) c.look_at.ensures.no_damage
 
 pub returns-in_err-count_number-clause-fault : goal.returns-in_err-count_number-clause-fault
 returns-in_err-count_number-clause-fault g c = if_err_handed c.from_residual.result _ _ c.from_residual.ensures.1
-    (λ told. as_it_is (told_catalog _ _ _ _ (the_version c.args.oid.now) _ (c.in_err-count_number.ensures.fault told)))
+    (λ told. as_it_is (told_catalog _ _ _ _ (version_for c.args.oid.now (to_copy c.args.copying)) _ (c.in_err-count_number.ensures.fault told)))
 
 pub returns-in_err-file_of-clause-fault : goal.returns-in_err-file_of-clause-fault
 returns-in_err-file_of-clause-fault g c = if_err_handed c.from_residual-in_err-file_of.result _ _ c.from_residual-in_err-file_of.ensures.1 (λ told.
     let mid = c.count_number.new.volume in
     let G = g.V.Ground in
     let fault = c.in_err-file_of.field-0.0 in
-    after_count G (the_version c.args.oid.now) fault c.args.volume.now mid _ (c.in_ok-count_number.ensures.counts told)
-    (told_start _ _ _ _ (the_version c.args.oid.now) c.args.oid.now fault refl
+    let own = version_for c.args.oid.now (to_copy c.args.copying) in
+    after_count G own fault c.args.volume.now mid _ (c.in_ok-count_number.ensures.counts told)
+    (told_start _ _ _ _ own c.args.oid.now (to_copy c.args.copying) fault (refl, refl) (uncopied_off _ _ _ c.args.oid.now c.args.copying)
     (subst (λ (place : Place). IsStartFault (G.geometry mid) (G.image mid) place fault) c.place_of.ensures (c.in_err-file_of.ensures.fault (G.leads_told c.args.volume.now mid c.count_number.ensures.leads told)))))
 
 pub returns-in-Err-clause-fault : goal.returns-in-Err-clause-fault
@@ -134,13 +135,17 @@ returns-in-Err-clause-fault g c = λ told.
     let later = c.file_of.new.volume in
     let G = g.V.Ground in
     let fault = c.in-Err.fault in
-    let own = the_version c.args.oid.now in
+    let own = version_for c.args.oid.now (to_copy c.args.copying) in
+    let room = c.of_copy-asked.ensures.file in
+    let filed = filed_later G mid later c.file_of.ensures.kept c.args.oid.now c.in_ok-file_of.field-0 c.of_copy-asked.result.file_no room
+    (subst (λ (place : Place). G.tells mid → (index : Index) (body : List ℕ) → HasBody G mid index place body → index.file_no ≡ c.in_ok-file_of.field-0) c.place_of.ensures c.in_ok-file_of.ensures.number
+    (G.leads_told c.args.volume.now mid c.count_number.ensures.leads told)) in
     let there = G.leads_told mid later c.file_of.ensures.kept.leads (G.leads_told c.args.volume.now mid c.count_number.ensures.leads told) in
     after_count G own fault c.args.volume.now mid _ (c.in_ok-count_number.ensures.counts told)
     (after_reading G own fault mid later c.file_of.ensures.kept
     (elim c.match-copying.branch [
-      | in-Freeze w ↦ told_freeze _ _ own _ c.args.oid.now fault refl (IfErr-at_err _ (sym w.copied-is ∙ c.in-Err.is) w.freeze-copied.ensures.fault there)
-      | in-Derive w ↦ told_derive _ _ own _ c.args.oid.now fault refl (IfErr-at_err _ (sym w.copied-is ∙ c.in-Err.is) w.derive-copied.ensures.fault there)
+      | in-Freeze w ↦ told_freeze _ _ own _ c.args.oid.now fault (refl, ap to_copy (sym w.in-Freeze.is)) filed (IfErr-at_err _ (sym w.copied-is ∙ c.in-Err.is) w.freeze-copied.ensures.fault there)
+      | in-Derive w ↦ told_derive _ _ own _ c.args.oid.now fault (refl, ap to_copy (sym w.in-Derive.is)) filed (IfErr-at_err _ (sym w.copied-is ∙ c.in-Err.is) w.derive-copied.ensures.fault there)
     ]))
 
 -- ---- what else is asked and promised

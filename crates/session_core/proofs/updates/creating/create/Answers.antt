@@ -12,6 +12,7 @@ use Rattle.ex_base.proofs.Results.{if_err_handed}
 use Rattle.volume_edits.specs.Damage.{as_it_is, of_placing, ports_own}
 use Rattle.volume_edits.proofs.Damage.{after_count, told_catalog}
 use Rattle.session_core.specs.Damage.{IsFaultIn, no_version}
+use Rattle.volume_edits.specs.Purposes.{anyhow}
 use Rattle.file_rooms.specs.Rooms.{ChangesOne}
 use Rattle.ex_base.specs.declared.names.Area.{Area}
 use Rattle.ex_base.specs.declared.names.Area.TheVariants.{Page}
@@ -64,16 +65,16 @@ returns-in-Ok-clause-takes g c = λ name. ok_of c.look_at.result _
     (pages_taken g.V.Ground c.args.volume.now c.count_number.new.volume c.create.new.volume c.in_ok-count_number.ensures.free c.in-Ok.ensures.pages c.in-Ok.ensures.leaves))
 
 pub returns-in-Ok-clause-fault : goal.returns-in-Ok-clause-fault
-returns-in-Ok-clause-fault g c = IfErr-weaker c.look_at.result _ (IsFaultIn g.V.Ground c.args.volume.now no_version) (λ fault never told. as_it_is (ports_own never)) c.look_at.ensures.no_damage
+returns-in-Ok-clause-fault g c = IfErr-weaker c.look_at.result _ (IsFaultIn g.V.Ground c.args.volume.now (anyhow no_version)) (λ fault never told. as_it_is (ports_own never)) c.look_at.ensures.no_damage
 
 pub returns-in_err-count_number-clause-fault : goal.returns-in_err-count_number-clause-fault
 returns-in_err-count_number-clause-fault g c = if_err_handed c.from_residual.result _ _ c.from_residual.ensures.1
-    (λ told. as_it_is (told_catalog _ _ _ _ no_version _ (c.in_err-count_number.ensures.fault told)))
+    (λ told. as_it_is (told_catalog _ _ _ _ (anyhow no_version) _ (c.in_err-count_number.ensures.fault told)))
 
 pub returns-in-Err-clause-fault : goal.returns-in-Err-clause-fault
 returns-in-Err-clause-fault g c = λ told.
     let mid = c.count_number.new.volume in
-    after_count g.V.Ground no_version c.in-Err.fault c.args.volume.now mid _ (c.in_ok-count_number.ensures.counts told)
+    after_count g.V.Ground (anyhow no_version) c.in-Err.fault c.args.volume.now mid _ (c.in_ok-count_number.ensures.counts told)
     (of_placing c.of_file-asked.result.file_no _ (c.in-Err.ensures.fault (g.V.Ground.leads_told c.args.volume.now mid c.count_number.ensures.leads told)))
 
 -- ---- what else is asked and promised

@@ -4,7 +4,8 @@ use Rattle.session_core.proofs.Removed.{drop_failed, version_dropped}
 use Rattle.session_core.proofs.Followed.{still_updated, still_done, still_touches, version_few}
 use Rattle.versions.proofs.Results.{ok_of}
 use Rattle.volume_edits.proofs.UnitsTaken.{nothing_taken}
-use Rattle.session_core.specs.Damage.{IsFaultIn, the_version}
+use Rattle.session_core.specs.Damage.{IsFaultIn, version_for}
+use Rattle.volume_edits.specs.Purposes.{ToDrop}
 use Rattle.std.proofs.lemmas.Result.{IfErr-weaker}
 use Rattle.volume_edits.specs.Damage.{as_it_is, ports_own}
 use Rattle.volume_edits.proofs.Damage.{told_drop}
@@ -30,10 +31,10 @@ returns-in-Ok-clause-takes g c = ok_of c.look_at.result _
     (nothing_taken g.V.Ground c.args.volume.now c.drop_version.new.volume c.look_at.new.volume c.in-Ok.ensures.pages c.in-Ok.ensures.leaves c.look_at.ensures.kept.free)
 
 pub returns-in-Ok-clause-fault : goal.returns-in-Ok-clause-fault
-returns-in-Ok-clause-fault g c = IfErr-weaker c.look_at.result _ (IsFaultIn g.V.Ground c.args.volume.now (the_version c.args.oid.now)) (λ fault never told. as_it_is (ports_own never)) c.look_at.ensures.no_damage
+returns-in-Ok-clause-fault g c = IfErr-weaker c.look_at.result _ (IsFaultIn g.V.Ground c.args.volume.now (version_for c.args.oid.now ToDrop)) (λ fault never told. as_it_is (ports_own never)) c.look_at.ensures.no_damage
 
 pub returns-in-Err-clause-fault : goal.returns-in-Err-clause-fault
-returns-in-Err-clause-fault g c = λ told. as_it_is (told_drop _ _ (the_version c.args.oid.now) c.drop_version.new.volume c.args.oid.now c.in-Err.fault refl (c.in-Err.ensures.fault told))
+returns-in-Err-clause-fault g c = λ told. as_it_is (told_drop _ _ (version_for c.args.oid.now ToDrop) c.drop_version.new.volume c.args.oid.now c.in-Err.fault (refl, refl) (c.in-Err.ensures.fault told))
 
 pub look_at-requires : goal.look_at-requires
 look_at-requires g c = g.V.Ground.leads_ready c.args.volume.now c.drop_version.new.volume c.drop_version.ensures.leads c.requires
