@@ -20,12 +20,12 @@ use Rattle.engines.specs.Keeping.{Conduct, conduct}
 use Rattle.session_core.specs.Catalogs.{IsDamaged, catalog_bytes}
 use Rattle.session_core.specs.Commits.{JustReached, LogsCommit, WritesHome, committed_reach, working_reach}
 use Rattle.session_core.specs.Counts.{free_in}
-use Rattle.session_core.specs.Damage.{IsSessionDamage}
+use Rattle.session_core.specs.Damage.{IsDamageFor}
 use Rattle.session_core.specs.Meant.{meant}
 use Rattle.session_core.specs.Sessions.{FreesGivenBack, FreesTaken, SessionState, TakesLogged}
 use Rattle.session_core.specs.Steps.{IsQuiet, IsRefused, OnlyFrames}
 use Rattle.session_core.specs.Updates.{WritesUnused}
-use Rattle.transactions.specs.Commands.{IsCopy, IsHonestTo, IsOfCatalog, ReadsAlone, names_version}
+use Rattle.transactions.specs.Commands.{IsCopy, IsHonestTo, IsOfCatalog, ReadsAlone, asks_for}
 use Rattle.transactions.specs.Ways.{IsSoundReply}
 use Rattle.transactions.specs.Scanning.{LeavesScans, ReadsThrough}
 use Rattle.transactions.specs.Contents.{StepShaped}
@@ -59,7 +59,7 @@ pub record DamageKept (old : SessionState) (a b : Outside) (r : Request) (result
   -- It is told by a look at the session's volume, for the version that the command names, or on the way down from a root that the session holds. To a
   -- command that commits, changes objects or gives trees up it is so of an honest disk.
   pub stands : (page : PageNo) (want got : Seen) → result ≡ Err (stop.Damaged page want got) → IsHonestTo r a → TellsBytes a old.groups
-      → IsSessionDamage a b old (names_version old r) page want got
+      → IsDamageFor a b old (asks_for old r) page want got
   -- To a command that asks of no objects and gives no tree up, only a catalog that is outside of its grammar is damaged.
   pub catalog : IsOfCatalog r → (page : PageNo) (want got : Seen) → result ≡ Err (stop.Damaged page want got)
       → IsDamaged a old.groups (catalog_bytes old) page want got

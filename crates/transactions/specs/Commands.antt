@@ -1,8 +1,8 @@
 -- What a step on any command promises.
-use Rattle.std.specs.Prelude.{⊤, ◌≡◌, ◌&&◌, Bool, true, false, not, Result, IfOk, IfErr, IsTrue}
+use Rattle.std.specs.Prelude.{⊤, ◌≡◌, ◌+◌, ◌&&◌, Bool, true, false, not, Result, IfOk, IfErr, IsTrue}
 use Rattle.disk_model.specs.Outside.{Outside, DiskOnly, Leaves, ReadsOnly}
 use Rattle.table_model.specs.declared.reply.Reply.{Reply}
-use Rattle.table_model.specs.Requests.{Request}
+use Rattle.table_model.specs.Requests.{Request, given_bytes}
 use Rattle.table_model.specs.Requests as request
 use Rattle.session_views.specs.declared.stop.Stop.{Stop}
 use Rattle.session_views.specs.View.{View, ShowsNow, Stepped, StandsDuring}
@@ -13,7 +13,9 @@ use Rattle.session_core.specs.Steps.{IsQuiet, IsRefused, OnlyFrames, Stops, is_q
 use Rattle.session_core.specs.Updates.{WritesUnused}
 use Rattle.ex_base.specs.declared.names.Oid.{Oid}
 use Rattle.session_core.specs.Damage.{no_version}
-use Rattle.transactions.specs.Lines.{named_as}
+use Rattle.versions.specs.Versions.{Inserts, Appends, Replaces, Deletes}
+use Rattle.volume_edits.specs.Purposes.{Purpose, ToDerive, ToFreeze, ToReadSmall, ToRelate, anyhow}
+use Rattle.transactions.specs.Lines.{named_as, named_for, to_destroy, to_drop, to_edit, to_find, to_read_all}
 use Rattle.transactions.specs.Scanning.{LeavesScans}
 
 -- The command makes, changes or removes a version. What it writes of a tree goes to units that are not in use, at once.
@@ -64,6 +66,24 @@ names_version s (request.Freeze x bind) = named_as s x
 names_version s (request.Derive x bind) = named_as s x
 names_version s (request.DropVersion x) = named_as s x
 names_version s r = no_version
+
+-- the version that a command names, with what the command asks for it for
+abbrev pub asks_for : SessionState → Request → Oid → Purpose → Type 0
+asks_for s (request.Destroy x) = named_for s x to_destroy
+asks_for s (request.Size x) = named_for s x to_find
+asks_for s (request.Stat x) = named_for s x to_find
+asks_for s (request.Digest x) = named_for s x to_read_all
+asks_for s (request.Versions x) = named_for s x (λ purpose. purpose ≡ ToRelate)
+asks_for s (request.Read x pos len) = named_for s x (λ purpose. purpose ≡ ToReadSmall (pos + len))
+asks_for s (request.Scan x name group) = named_for s x to_read_all
+asks_for s (request.Insert x pos given) = named_for s x (to_edit (Inserts pos (given_bytes given)))
+asks_for s (request.Append x given) = named_for s x (to_edit (Appends (given_bytes given)))
+asks_for s (request.Replace x pos given) = named_for s x (to_edit (Replaces pos (given_bytes given)))
+asks_for s (request.Delete x pos len) = named_for s x (to_edit (Deletes pos len))
+asks_for s (request.Freeze x bind) = named_for s x (λ purpose. purpose ≡ ToFreeze)
+asks_for s (request.Derive x bind) = named_for s x (λ purpose. purpose ≡ ToDerive)
+asks_for s (request.DropVersion x) = named_for s x to_drop
+asks_for s r = anyhow no_version
 
 -- The command gives trees up: it reads the nodes that become free.
 abbrev pub gives_trees : Request → Bool

@@ -1,5 +1,5 @@
 -- What lines that read or change objects promise.
-use Rattle.std.specs.Prelude.{◌≡◌, Option, Result, IfOk, IfErr, Some}
+use Rattle.std.specs.Prelude.{◌≡◌, ⊤, Option, Result, IfOk, IfErr, Some}
 use Rattle.disk_model.specs.Outside.{Outside, DiskOnly, Leaves, ReadsOnly}
 use Rattle.table_model.specs.declared.machine.Machine.{Machine}
 use Rattle.table_model.specs.declared.machine.Pick.{Pick}
@@ -13,6 +13,9 @@ use Rattle.session_core.specs.Meant.{meant}
 use Rattle.session_core.specs.Sessions.{SessionState}
 use Rattle.session_core.specs.Steps.{IsRefused, OnlyFrames}
 use Rattle.session_core.specs.Updates.{WritesUnused}
+use Rattle.versions.specs.Versions.{Change}
+use Rattle.volume_edits.specs.Purposes.{Purpose}
+use Rattle.volume_edits.specs.Purposes as purpose
 use Rattle.session_core.specs.Finding.{IfShown, LineStops, IsOutside, oid_among}
 use Rattle.transactions.specs.Contents.{StepShaped}
 use Rattle.transactions.specs.Scanning.{LeavesScans}
@@ -25,6 +28,36 @@ Answered m r why = (q : Pick) → refusal_of m r q ≡ why
 -- it is the OID that a line gives, as the session's names have it
 abbrev pub named_as : SessionState → Reference → Oid → Type 0
 named_as s x oid = oid_among s.names x ≡ Some oid
+
+-- so it is, and the line asks for that version for one of these purposes
+abbrev pub named_for : SessionState → Reference → (Purpose → Type 0) → Oid → Purpose → Type 0
+named_for s x purposes oid purpose = named_as s x oid × purposes purpose
+
+-- for none but to find it
+abbrev pub to_find : Purpose → Type 0
+to_find purpose = ⊥
+
+-- to read all of it, as many bytes as it was found to have
+abbrev pub to_read_all : Purpose → Type 0
+to_read_all (purpose.ToRead size) = ⊤
+to_read_all _ = ⊥
+
+-- to change it so, where the room beside its record tells what that needs
+abbrev pub to_edit : Change → Purpose → Type 0
+to_edit change purpose.ToMeasure = ⊤
+to_edit change (purpose.ToChange other used free) = other ≡ change
+to_edit change _ = ⊥
+
+-- to remove a current version, or a frozen one, where its relatives tell whether it may go
+abbrev pub to_destroy : Purpose → Type 0
+to_destroy purpose.ToRelate = ⊤
+to_destroy purpose.ToRemove = ⊤
+to_destroy _ = ⊥
+
+abbrev pub to_drop : Purpose → Type 0
+to_drop purpose.ToRelate = ⊤
+to_drop purpose.ToDrop = ⊤
+to_drop _ = ⊥
 
 -- A line that reads objects: it writes nothing and leaves the session but for its frames. From a view that shows it steps as the machine does, or the
 -- stop is no fault of the volume.

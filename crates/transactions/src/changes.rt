@@ -5,8 +5,9 @@ ghost use Rattle.table_model.specs.Requests.{Request, given_of, is_given, refere
 ghost use Rattle.transactions.specs.Asking.{CountsItsBytes, asked_change};
 ghost use Rattle.table_model.specs.Requests as request;
 ghost use Rattle.transactions.specs.Editing.{AsksFor};
-ghost use Rattle.transactions.specs.Lines.{UpdatesLine, named_as};
-ghost use Rattle.session_core.specs.Damage.{TellsDamage};
+ghost use Rattle.transactions.specs.Commands.{asks_for};
+ghost use Rattle.transactions.specs.Lines.{UpdatesLine, named_for, to_edit};
+ghost use Rattle.session_core.specs.Damage.{TellsFor};
 
 use crate::asked::{Asked, given_count};
 use crate::edits::admit;
@@ -32,8 +33,9 @@ fn change<H: Host>(
     ensures line { (r : Request) → AsksFor r (reference_of x.now) (asked_change asked.now)
         → UpdatesLine (H.outside host.old) (H.outside host.new) session.old session.new r result }
     ensures damage { IsTrue (H.outside host.old).honest
-        → IfErr result (TellsDamage (H.outside host.old) (H.outside host.new)
-        session.old (named_as session.old (reference_of x.now))) }
+        → IfErr result (TellsFor (H.outside host.old) (H.outside host.new)
+        session.old (named_for session.old (reference_of x.now)
+        (to_edit (asked_change asked.now)))) }
 {
     let given = match admit(session, alloc, host, x, asked) {
         Ok(Ok(given)) => given,
@@ -68,8 +70,9 @@ pub(crate) fn insert<H: Host>(
     ensures line { UpdatesLine (H.outside host.old) (H.outside host.new) session.old session.new
         (request.Insert (reference_of x.now) pos (given_of given.now)) result }
     ensures damage { IsTrue (H.outside host.old).honest
-        → IfErr result (TellsDamage (H.outside host.old) (H.outside host.new)
-        session.old (named_as session.old (reference_of x.now))) }
+        → IfErr result (TellsFor (H.outside host.old) (H.outside host.new)
+        session.old (asks_for session.old
+        (request.Insert (reference_of x.now) pos (given_of given.now)))) }
 {
     if !session.is_open() {
         return Ok(Reply::No(Refusal::NoTxn));
@@ -96,8 +99,9 @@ pub(crate) fn append<H: Host>(
     ensures line { UpdatesLine (H.outside host.old) (H.outside host.new) session.old session.new
         (request.Append (reference_of x.now) (given_of given.now)) result }
     ensures damage { IsTrue (H.outside host.old).honest
-        → IfErr result (TellsDamage (H.outside host.old) (H.outside host.new)
-        session.old (named_as session.old (reference_of x.now))) }
+        → IfErr result (TellsFor (H.outside host.old) (H.outside host.new)
+        session.old (asks_for session.old
+        (request.Append (reference_of x.now) (given_of given.now)))) }
 {
     if !session.is_open() {
         return Ok(Reply::No(Refusal::NoTxn));
@@ -124,8 +128,9 @@ pub(crate) fn replace<H: Host>(
     ensures line { UpdatesLine (H.outside host.old) (H.outside host.new) session.old session.new
         (request.Replace (reference_of x.now) pos (given_of given.now)) result }
     ensures damage { IsTrue (H.outside host.old).honest
-        → IfErr result (TellsDamage (H.outside host.old) (H.outside host.new)
-        session.old (named_as session.old (reference_of x.now))) }
+        → IfErr result (TellsFor (H.outside host.old) (H.outside host.new)
+        session.old (asks_for session.old
+        (request.Replace (reference_of x.now) pos (given_of given.now)))) }
 {
     if !session.is_open() {
         return Ok(Reply::No(Refusal::NoTxn));
@@ -152,8 +157,9 @@ pub(crate) fn delete<H: Host>(
     ensures line { UpdatesLine (H.outside host.old) (H.outside host.new) session.old session.new
         (request.Delete (reference_of x.now) pos len) result }
     ensures damage { IsTrue (H.outside host.old).honest
-        → IfErr result (TellsDamage (H.outside host.old) (H.outside host.new)
-        session.old (named_as session.old (reference_of x.now))) }
+        → IfErr result (TellsFor (H.outside host.old) (H.outside host.new)
+        session.old (asks_for session.old
+        (request.Delete (reference_of x.now) pos len))) }
 {
     if !session.is_open() {
         return Ok(Reply::No(Refusal::NoTxn));

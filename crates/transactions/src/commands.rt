@@ -18,11 +18,11 @@ ghost use Rattle.session_core.specs.Sessions.{FreesGivenBack, FreesTaken, IsSess
 ghost use Rattle.session_core.specs.Catalogs.{IsDamaged, catalog_bytes};
 ghost use Rattle.session_core.specs.Commits.{JustReached, LogsCommit, WritesHome, committed_reach, working_reach};
 ghost use Rattle.session_core.specs.Counts.{free_in};
-ghost use Rattle.session_core.specs.Damage.{IsSessionDamage, TellsDamage};
+ghost use Rattle.session_core.specs.Damage.{IsDamageFor, TellsFor};
 ghost use Rattle.session_core.specs.Meant.{meant};
 ghost use Rattle.session_core.specs.Steps.{IsRefused, OnlyFrames, IsQuiet};
 ghost use Rattle.session_core.specs.Updates.{WritesUnused};
-ghost use Rattle.transactions.specs.Commands.{Answers, IsCopy, IsHonestTo, IsOfCatalog, ReadsAlone, asks_objects, names_version};
+ghost use Rattle.transactions.specs.Commands.{Answers, IsCopy, IsHonestTo, IsOfCatalog, ReadsAlone, asks_for, asks_objects};
 ghost use Rattle.transactions.specs.Ways.{IsSoundReply};
 ghost use Rattle.transactions.specs.Scanning.{LeavesScans, ReadsThrough};
 ghost use Rattle.transactions.specs.Contents.{StepShaped};
@@ -57,8 +57,8 @@ fn answer<H: Host>(
     ensures answers { Answers (H.outside host.old) (H.outside host.new) session.old session.new
         (request_of command.now) result }
     ensures damage { IsHonestTo (request_of command.now) (H.outside host.old)
-        → IfErr result (TellsDamage (H.outside host.old) (H.outside host.new)
-        session.old (names_version session.old (request_of command.now))) }
+        → IfErr result (TellsFor (H.outside host.old) (H.outside host.new)
+        session.old (asks_for session.old (request_of command.now))) }
     ensures way { ReadsAlone (request_of command.now) → IfOk result (λ told.
         TellsBytes (H.outside host.old) session.old.groups
         → IsSoundReply (H.outside host.old) session.old (request_of command.now) told) }
@@ -130,8 +130,8 @@ fn answer_objects<H: Host>(
     ensures answers { Answers (H.outside host.old) (H.outside host.new) session.old session.new
         (request_of command.now) result }
     ensures damage { IsHonestTo (request_of command.now) (H.outside host.old)
-        → IfErr result (TellsDamage (H.outside host.old) (H.outside host.new)
-        session.old (names_version session.old (request_of command.now))) }
+        → IfErr result (TellsFor (H.outside host.old) (H.outside host.new)
+        session.old (asks_for session.old (request_of command.now))) }
     ensures way { ReadsAlone (request_of command.now) → IfOk result (λ told.
         TellsBytes (H.outside host.old) session.old.groups
         → IsSoundReply (H.outside host.old) session.old (request_of command.now) told) }
@@ -189,8 +189,8 @@ pub fn step<H: Host>(
         → result ≡ Err (Stop.Damaged page want got)
         → IsHonestTo (request_of command.now) (H.outside host.old)
         → TellsBytes (H.outside host.old) session.old.groups
-        → IsSessionDamage (H.outside host.old) (H.outside host.new) session.old
-        (names_version session.old (request_of command.now)) page want got }
+        → IsDamageFor (H.outside host.old) (H.outside host.new) session.old
+        (asks_for session.old (request_of command.now)) page want got }
 
     // A reply of a command that reads alone says that each page that it read on its way was what names it.
     ensures way { ReadsAlone (request_of command.now) → IfOk result (λ told.

@@ -7,8 +7,9 @@ ghost use Rattle.session_core.specs.Steps.{OnlyFrames};
 ghost use Rattle.table_model.specs.Requests.{is_kept_name_if, reference_of};
 ghost use Rattle.transactions.specs.Copies.{CanCopy, IsOriginal, MayCopy, copy_kind, copy_refusal, copy_reply, copy_request, kind_refusal};
 ghost use Rattle.volume_model.specs.Volume.{is_frozen};
-ghost use Rattle.transactions.specs.Lines.{Answered, UpdatesLine, named_as};
-ghost use Rattle.session_core.specs.Damage.{TellsDamage};
+ghost use Rattle.session_core.specs.Performed.{to_copy};
+ghost use Rattle.transactions.specs.Lines.{Answered, UpdatesLine, named_for};
+ghost use Rattle.session_core.specs.Damage.{TellsFor};
 
 use crate::edits::refuses_room;
 use crate::making::{MAKING_NEED, is_taken, make, next_number};
@@ -91,8 +92,9 @@ fn admit<H: Host>(
         (λ told. IfOk told (λ given. CanCopy session.old
         (option_map (λ name. name.now) bind.entry) given)) }
     ensures stops { IfErr result (LineStops (H.outside host.old) (H.outside host.new)) }
-    ensures damage { IfErr result (TellsDamage (H.outside host.old) (H.outside host.new)
-        session.old (named_as session.old (reference_of x.now))) }
+    ensures damage { IfErr result (TellsFor (H.outside host.old) (H.outside host.new)
+        session.old (named_for session.old (reference_of x.now)
+        (λ purpose. purpose ≡ to_copy copying))) }
     ensures asked { IfOk result (λ told. IfOk told (λ given.
         oid_among session.old.names (reference_of x.now) ≡ Some given.oid)) }
     ensures sound { IfErr result (λ why. IfShown (H.outside host.old) session.old
@@ -158,8 +160,9 @@ pub(crate) fn copy<H: Host>(
         (copy_request copying (reference_of x.now)
         (option_map (λ name. name.now) bind.entry)) result }
     ensures damage { IsTrue (H.outside host.old).honest
-        → IfErr result (TellsDamage (H.outside host.old) (H.outside host.new)
-        session.old (named_as session.old (reference_of x.now))) }
+        → IfErr result (TellsFor (H.outside host.old) (H.outside host.new)
+        session.old (named_for session.old (reference_of x.now)
+        (λ purpose. purpose ≡ to_copy copying))) }
     ensures shares { OnOk result
         (TakesLogged session.old.units session.new.units session.new.pages) }
 {

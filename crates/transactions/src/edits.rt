@@ -10,9 +10,9 @@ ghost use Rattle.session_core.specs.Sessions.{IsSession};
 ghost use Rattle.session_core.specs.Steps.{OnlyFrames};
 ghost use Rattle.table_model.specs.Requests.{reference_of};
 ghost use Rattle.transactions.specs.Editing.{IsAnswered, IsAdmitted, IsWithin, IsNeed, bytes_refusal, edit_need, is_outside, room_refusal};
-ghost use Rattle.session_core.specs.Damage.{TellsDamage, TellsFor, version_for};
+ghost use Rattle.session_core.specs.Damage.{TellsFor, version_for};
 ghost use Rattle.volume_edits.specs.Purposes.{ToMeasure};
-ghost use Rattle.transactions.specs.Lines.{named_as};
+ghost use Rattle.transactions.specs.Lines.{named_for, to_edit};
 
 use crate::asked::Asked;
 use crate::needs::{is_inside, size_after, units_need};
@@ -175,8 +175,9 @@ pub(crate) fn admit<H: Host>(
     ensures limits { IfOk result
         (λ told. IfOk told (λ given. IsWithin session.old (asked_change asked.now) given)) }
     ensures stops { IfErr result (LineStops (H.outside host.old) (H.outside host.new)) }
-    ensures damage { IfErr result (TellsDamage (H.outside host.old) (H.outside host.new)
-        session.old (named_as session.old (reference_of x.now))) }
+    ensures damage { IfErr result (TellsFor (H.outside host.old) (H.outside host.new)
+        session.old (named_for session.old (reference_of x.now)
+        (to_edit (asked_change asked.now)))) }
     ensures asked { IfOk result (λ told. IfOk told (λ given.
         oid_among session.old.names (reference_of x.now) ≡ Some given.version.oid)) }
     ensures sound { IfErr result (λ why. IfShown (H.outside host.old) session.old

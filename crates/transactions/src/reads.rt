@@ -5,11 +5,12 @@ ghost use Rattle.object_files.specs.Edits.{IsCatalogPage};
 ghost use Rattle.object_files.specs.Reads.{catalog_on};
 ghost use Rattle.table_model.specs.Requests.{reference_of};
 ghost use Rattle.table_model.specs.Requests as request;
-ghost use Rattle.transactions.specs.Lines.{ReadsLine, named_as};
+ghost use Rattle.transactions.specs.Commands.{asks_for};
+ghost use Rattle.transactions.specs.Lines.{ReadsLine};
 ghost use Rattle.transactions.specs.Refused.{entry_named};
 ghost use Rattle.transactions.specs.Ways.{IsSoundReply};
 ghost use Rattle.volume_port.specs.Reading.{TellsBytes};
-ghost use Rattle.session_core.specs.Damage.{TellsDamage, no_version};
+ghost use Rattle.session_core.specs.Damage.{TellsDamage, TellsFor, no_version};
 
 use crate::refuse::entry_named;
 use disk_model::Host;
@@ -47,8 +48,9 @@ pub(crate) fn size<H: Host>(
         (request.Size (reference_of x.now)) result }
     ensures way { IfOk result (λ told. TellsBytes (H.outside host.old) session.old.groups
         → IsSoundReply (H.outside host.old) session.old (request.Size (reference_of x.now)) told) }
-    ensures damage { IfErr result (TellsDamage (H.outside host.old) (H.outside host.new)
-        session.old (named_as session.old (reference_of x.now))) }
+    ensures damage { IfErr result (TellsFor (H.outside host.old) (H.outside host.new)
+        session.old (asks_for session.old
+        (request.Size (reference_of x.now)))) }
 {
     match session.named(alloc, host, x) {
         Ok(Ok(version)) => Ok(Reply::Size {
@@ -74,8 +76,9 @@ pub(crate) fn read<H: Host>(
     ensures way { IfOk result (λ told. TellsBytes (H.outside host.old) session.old.groups
         → IsSoundReply (H.outside host.old) session.old
         (request.Read (reference_of x.now) pos len) told) }
-    ensures damage { IfErr result (TellsDamage (H.outside host.old) (H.outside host.new)
-        session.old (named_as session.old (reference_of x.now))) }
+    ensures damage { IfErr result (TellsFor (H.outside host.old) (H.outside host.new)
+        session.old (asks_for session.old
+        (request.Read (reference_of x.now) pos len))) }
 {
     let version = match session.named(alloc, host, x) {
         Ok(Ok(version)) => version,
@@ -141,8 +144,9 @@ pub(crate) fn versions<H: Host>(
     ensures way { IfOk result (λ told. TellsBytes (H.outside host.old) session.old.groups
         → IsSoundReply (H.outside host.old) session.old
         (request.Versions (reference_of x.now)) told) }
-    ensures damage { IfErr result (TellsDamage (H.outside host.old) (H.outside host.new)
-        session.old (named_as session.old (reference_of x.now))) }
+    ensures damage { IfErr result (TellsFor (H.outside host.old) (H.outside host.new)
+        session.old (asks_for session.old
+        (request.Versions (reference_of x.now)))) }
 {
     let version = match session.named(alloc, host, x) {
         Ok(Ok(version)) => version,
@@ -169,8 +173,9 @@ pub(crate) fn stat<H: Host>(
         (request.Stat (reference_of x.now)) result }
     ensures way { IfOk result (λ told. TellsBytes (H.outside host.old) session.old.groups
         → IsSoundReply (H.outside host.old) session.old (request.Stat (reference_of x.now)) told) }
-    ensures damage { IfErr result (TellsDamage (H.outside host.old) (H.outside host.new)
-        session.old (named_as session.old (reference_of x.now))) }
+    ensures damage { IfErr result (TellsFor (H.outside host.old) (H.outside host.new)
+        session.old (asks_for session.old
+        (request.Stat (reference_of x.now)))) }
 {
     let version = match session.named(alloc, host, x) {
         Ok(Ok(version)) => version,
@@ -212,8 +217,9 @@ pub(crate) fn digest<H: Host>(
     ensures way { IfOk result (λ told. TellsBytes (H.outside host.old) session.old.groups
         → IsSoundReply (H.outside host.old) session.old
         (request.Digest (reference_of x.now)) told) }
-    ensures damage { IfErr result (TellsDamage (H.outside host.old) (H.outside host.new)
-        session.old (named_as session.old (reference_of x.now))) }
+    ensures damage { IfErr result (TellsFor (H.outside host.old) (H.outside host.new)
+        session.old (asks_for session.old
+        (request.Digest (reference_of x.now)))) }
 {
     let version = match session.named(alloc, host, x) {
         Ok(Ok(version)) => version,

@@ -10,9 +10,10 @@ ghost use Rattle.table_model.specs.Requests.{reference_of};
 ghost use Rattle.table_model.specs.Steps.{note};
 ghost use Rattle.table_model.specs.Requests as request;
 ghost use Rattle.transactions.specs.Editing.{room_refusal};
-ghost use Rattle.transactions.specs.Lines.{Answered, UpdatesLine, named_as};
+ghost use Rattle.transactions.specs.Commands.{asks_for};
+ghost use Rattle.transactions.specs.Lines.{Answered, UpdatesLine};
 ghost use Rattle.transactions.specs.Removing.{AcceptsOf, removal_need};
-ghost use Rattle.session_core.specs.Damage.{TellsDamage};
+ghost use Rattle.session_core.specs.Damage.{TellsFor};
 
 use crate::edits::{Need, refuses_room};
 use crate::lineage::{branches, is_only_one};
@@ -64,8 +65,9 @@ fn admit_destroy<H: Host>(
     ensures limits { IfOk result
         (λ told. IfOk told (λ oid. room_refusal session.old removal_need ≡ None)) }
     ensures stops { IfErr result (LineStops (H.outside host.old) (H.outside host.new)) }
-    ensures damage { IfErr result (TellsDamage (H.outside host.old) (H.outside host.new)
-        session.old (named_as session.old (reference_of x.now))) }
+    ensures damage { IfErr result (TellsFor (H.outside host.old) (H.outside host.new)
+        session.old (asks_for session.old
+        (request.Destroy (reference_of x.now)))) }
     ensures asked { IfOk result (λ told. IfOk told (λ oid.
         oid_among session.old.names (reference_of x.now) ≡ Some oid)) }
     ensures sound { IfErr result (λ why. IfShown (H.outside host.old) session.old
@@ -111,8 +113,9 @@ fn admit_drop<H: Host>(
     ensures limits { IfOk result
         (λ told. IfOk told (λ oid. room_refusal session.old removal_need ≡ None)) }
     ensures stops { IfErr result (LineStops (H.outside host.old) (H.outside host.new)) }
-    ensures damage { IfErr result (TellsDamage (H.outside host.old) (H.outside host.new)
-        session.old (named_as session.old (reference_of x.now))) }
+    ensures damage { IfErr result (TellsFor (H.outside host.old) (H.outside host.new)
+        session.old (asks_for session.old
+        (request.DropVersion (reference_of x.now)))) }
     ensures asked { IfOk result (λ told. IfOk told (λ oid.
         oid_among session.old.names (reference_of x.now) ≡ Some oid)) }
     ensures sound { IfErr result (λ why. IfShown (H.outside host.old) session.old
@@ -150,8 +153,9 @@ pub(crate) fn destroy<H: Host>(
     ensures line { UpdatesLine (H.outside host.old) (H.outside host.new) session.old session.new
         (request.Destroy (reference_of x.now)) result }
     ensures damage { IsTrue (H.outside host.old).honest
-        → IfErr result (TellsDamage (H.outside host.old) (H.outside host.new)
-        session.old (named_as session.old (reference_of x.now))) }
+        → IfErr result (TellsFor (H.outside host.old) (H.outside host.new)
+        session.old (asks_for session.old
+        (request.Destroy (reference_of x.now)))) }
 {
     if !session.is_open() {
         return Ok(Reply::No(Refusal::NoTxn));
@@ -180,8 +184,9 @@ pub(crate) fn drop_version<H: Host>(
     ensures line { UpdatesLine (H.outside host.old) (H.outside host.new) session.old session.new
         (request.DropVersion (reference_of x.now)) result }
     ensures damage { IsTrue (H.outside host.old).honest
-        → IfErr result (TellsDamage (H.outside host.old) (H.outside host.new)
-        session.old (named_as session.old (reference_of x.now))) }
+        → IfErr result (TellsFor (H.outside host.old) (H.outside host.new)
+        session.old (asks_for session.old
+        (request.DropVersion (reference_of x.now)))) }
 {
     if !session.is_open() {
         return Ok(Reply::No(Refusal::NoTxn));

@@ -5,12 +5,13 @@ ghost use Rattle.ex_base.specs.declared.names.Area.TheVariants.{Page};
 ghost use Rattle.session_core.specs.Counts.{free_in};
 ghost use Rattle.table_model.specs.Requests.{is_request, reference_of};
 ghost use Rattle.table_model.specs.Requests as request;
-ghost use Rattle.transactions.specs.Lines.{ScansLine, named_as};
+ghost use Rattle.transactions.specs.Commands.{asks_for};
+ghost use Rattle.transactions.specs.Lines.{ScansLine};
 ghost use Rattle.transactions.specs.Ways.{IsSoundReply};
 ghost use Rattle.volume_port.specs.Reading.{TellsBytes};
 ghost use Rattle.transactions.specs.Scanning.{MayOpen, group_asked, scan_refusal, OpensThrough};
 ghost use Rattle.session_core.specs.Steps.{IsRefused};
-ghost use Rattle.session_core.specs.Damage.{TellsDamage, no_version};
+ghost use Rattle.session_core.specs.Damage.{TellsDamage, TellsFor, no_version};
 
 use disk_model::Host;
 use ex_base::Items;
@@ -84,8 +85,9 @@ pub(crate) fn scan<H: Host>(
         (option_map (λ g. g.now) group.entry)) told) }
     ensures through { IfOk result (λ told. IsRefused told ⊎ OpensThrough session.old
         session.new.scans name.now (option_map (λ g. g.now) group.entry)) }
-    ensures damage { IfErr result (TellsDamage (H.outside host.old) (H.outside host.new)
-        session.old (named_as session.old (reference_of x.now))) }
+    ensures damage { IfErr result (TellsFor (H.outside host.old) (H.outside host.new)
+        session.old (asks_for session.old
+        (request.Scan (reference_of x.now) name.now (option_map (λ g. g.now) group))) } ensures line { ScansLine (H.outside host.old) (H.outside host.new) session.old session.new (request.Scan (reference_of x.now) name.now (option_map (λ g. g.now) group.entry)))) }
 {
     let told = match session.named(alloc, host, x) {
         Ok(told) => told,

@@ -56,7 +56,7 @@ returns-clause-line g c = λ r asked.
 
 pub returns-clause-damage : goal.returns-clause-damage
 returns-clause-damage g c = λ honest. then_damage (reference_of c.args.x.now) c.admit.ensures.only (g.H.World.outside c.update_objects.new.host) c.in-Err-update_objects.stop
-    (admitted_with (λ (given : Admitted). oid_among c.args.session.now.names (reference_of c.args.x.now) ≡ Some given.version.oid) c.in-Ok-Ok.given c.in-Ok-Ok.field-0 c.in-Ok-Ok.field-0-is c.in-Ok-Ok.ensures.asked)
+    (admitted_with (λ (given : Admitted). oid_among c.args.session.now.names (reference_of c.args.x.now) ≡ Some given.version.oid) c.in-Ok-Ok.given c.in-Ok-Ok.field-0 c.in-Ok-Ok.field-0-is c.in-Ok-Ok.ensures.asked) c.with_bytes-edit.ensures
     (c.in-Err-update_objects.ensures.damage (honest_on c.admit.ensures.only.reads.nothing.only.goes honest))
 
 pub size_after-requires-clause-size : goal.size_after-requires-clause-size

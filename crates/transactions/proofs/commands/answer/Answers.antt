@@ -9,7 +9,7 @@ use Rattle.transactions.proofs.Commanding.{disk_alone, memory_alone, of_quiet, o
 use Rattle.std.proofs.lemmas.Result.{IfErr-weaker}
 use Rattle.session_core.specs.Damage.{no_version}
 use Rattle.session_core.proofs.Damage.{catalog_told}
-use Rattle.transactions.specs.Commands.{names_version}
+use Rattle.transactions.specs.Commands.{asks_for}
 use Rattle.transactions.proofs.QuietCommands.{quiet_but}
 use Rattle.transactions.proofs.Through.{of_no_scan}
 use Rattle.transactions.proofs.Damage.{damage_as, disk_damage, memory_damage}
@@ -87,10 +87,10 @@ pub returns-in-Close-clause-damage : goal.returns-in-Close-clause-damage
 returns-in-Close-clause-damage g c = damage_as (g.H.World.outside c.args.host.now) (g.H.World.outside c.close.new.host) c.args.session.now (request_of c.args.command.now) (request.Close c.in-Close.name.now) c.close.result (ap request_of c.in-Close.is) (λ honest. c.close.ensures.damage (honest refl))
 
 pub returns-in-Checkpoint-clause-damage : goal.returns-in-Checkpoint-clause-damage
-returns-in-Checkpoint-clause-damage g c = λ honest. IfErr-weaker c.checkpoint.result _ _ (disk_damage (g.H.World.outside c.args.host.now) (g.H.World.outside c.checkpoint.new.host) c.args.session.now (names_version c.args.session.now (request_of c.args.command.now))) c.checkpoint.ensures.disk_alone
+returns-in-Checkpoint-clause-damage g c = λ honest. IfErr-weaker c.checkpoint.result _ _ (disk_damage (g.H.World.outside c.args.host.now) (g.H.World.outside c.checkpoint.new.host) c.args.session.now (asks_for c.args.session.now (request_of c.args.command.now))) c.checkpoint.ensures.disk_alone
 
 pub returns-in-Group-clause-damage : goal.returns-in-Group-clause-damage
-returns-in-Group-clause-damage g c = λ honest. IfErr-weaker c.group.result _ _ (memory_damage (g.H.World.outside c.args.host.now) (g.H.World.outside c.args.host.now) c.args.session.now (names_version c.args.session.now (request_of c.args.command.now))) c.group.ensures.memory
+returns-in-Group-clause-damage g c = λ honest. IfErr-weaker c.group.result _ _ (memory_damage (g.H.World.outside c.args.host.now) (g.H.World.outside c.args.host.now) c.args.session.now (asks_for c.args.session.now (request_of c.args.command.now))) c.group.ensures.memory
 
 pub returns-in-Space-clause-unwritten : goal.returns-in-Space-clause-unwritten
 returns-in-Space-clause-unwritten g c = λ is. absurd (cc (is, ap request_of c.in-Space.is))

@@ -7,7 +7,7 @@ use Rattle.disk_model.specs.Changes.{changes_refl}
 use Rattle.volume_model.specs.Durable.{IsDurable}
 use Rattle.table_model.specs.Requests.{request_of}
 use Rattle.session_views.specs.declared.Stop.TheVariants as stop
-use Rattle.transactions.specs.Commands.{names_version}
+use Rattle.transactions.specs.Commands.{asks_for}
 use Rattle.transactions.specs.Scanning.{ReadsThrough, LeavesScans}
 use Rattle.transactions.proofs.Through.{none_through, stopped_through}
 use Rattle.transactions.proofs.ScansLeft.{scans_stay}
@@ -43,11 +43,11 @@ returns-else-is_err-clause-records g c = λ quiet before from now records says. 
 
 pub returns-then-is_err-clause-stands : goal.returns-then-is_err-clause-stands
 returns-then-is_err-clause-stands g c = λ page want got is honest. damage_at (g.H.World.outside c.args.host.now) (g.H.World.outside c.answer-told.new.host) c.args.session.now
-    (names_version c.args.session.now (request_of c.args.command.now)) c.answer-told.result page want got (c.answer-told.ensures.damage honest) is
+    (asks_for c.args.session.now (request_of c.args.command.now)) c.answer-told.result page want got (c.answer-told.ensures.damage honest) is
 
 pub returns-else-is_err-clause-stands : goal.returns-else-is_err-clause-stands
 returns-else-is_err-clause-stands g c = λ page want got is honest. damage_at (g.H.World.outside c.args.host.now) (g.H.World.outside c.answer-told.new.host) c.args.session.now
-    (names_version c.args.session.now (request_of c.args.command.now)) c.answer-told.result page want got (c.answer-told.ensures.damage honest) is
+    (asks_for c.args.session.now (request_of c.args.command.now)) c.answer-told.result page want got (c.answer-told.ensures.damage honest) is
 
 pub returns-then-is_down-clause-unused : goal.returns-then-is_down-clause-unused
 returns-then-is_down-clause-unused g c = λ quiet. changes_refl _ (g.H.World.outside c.args.host.now)

@@ -10,8 +10,8 @@ use Rattle.session_core.proofs.Sessions.{viewed}
 use Rattle.session_core.proofs.Stopping.{unread_outside}
 use Rattle.transactions.specs.Making.{number_in}
 use Rattle.transactions.proofs.Copied.{copy_admitted, copy_full, copy_spent, copy_unfound}
-use Rattle.session_core.proofs.Damage.{none_wider, catalog_told, later_damage}
-use Rattle.transactions.specs.Lines.{named_as}
+use Rattle.session_core.proofs.Damage.{none_for, catalog_told, later_damage}
+use Rattle.session_core.specs.Damage.{no_version}
 use Rattle.transactions.proofs.Damage.{oid_named}
 use Rattle.transactions.proofs.copying.admit.Goals as goal
 
@@ -67,13 +67,16 @@ returns-clause-admitted g c =
     c.in-Ok-next_number.unique (c.in-Ok-next_number.ensures ∙ ap number_in (viewed c.view_of.result c.deref.result.now c.in-Ok-catalog.page.items c.view_of.ensures c.deref.ensures.value)) (sym c.in-None.is ∙ c.refuses_room.ensures)
 
 pub returns-in-Err-clause-damage : goal.returns-in-Err-clause-damage
-returns-in-Err-clause-damage g c = none_wider (g.H.World.outside c.args.host.now) (g.H.World.outside c.named.new.host) c.args.session.now (named_as c.args.session.now (reference_of c.args.x.now)) c.in-Err.stop c.in-Err.ensures.damage
+returns-in-Err-clause-damage g c = none_for (g.H.World.outside c.args.host.now) (g.H.World.outside c.named.new.host) c.args.session.now _ c.in-Err.stop c.in-Err.ensures.damage
 
 pub returns-in-Err-catalog-clause-damage : goal.returns-in-Err-catalog-clause-damage
 returns-in-Err-catalog-clause-damage g c =
-    let own = named_as c.args.session.now (reference_of c.args.x.now) in
-    later_damage c.args.session.now c.named.new.self c.named.ensures.only (g.H.World.outside c.catalog.new.disk) own c.in-Err-catalog.stop
-    (catalog_told (g.H.World.outside c.named.new.host) (g.H.World.outside c.catalog.new.disk) c.named.new.self own c.in-Err-catalog.stop c.in-Err-catalog.ensures.stops)
+    let a = g.H.World.outside c.args.host.now in
+    let mid = g.H.World.outside c.named.new.host in
+    let b = g.H.World.outside c.catalog.new.disk in
+    none_for a b c.args.session.now _ c.in-Err-catalog.stop
+    (later_damage c.args.session.now c.named.new.self c.named.ensures.only b no_version c.in-Err-catalog.stop
+    (catalog_told mid b c.named.new.self no_version c.in-Err-catalog.stop c.in-Err-catalog.ensures.stops))
 
 pub returns-clause-asked : goal.returns-clause-asked
 returns-clause-asked g c = oid_named c.args.session.now (reference_of c.args.x.now) c.in-Ok-version_of.version c.in-Ok.told c.in-Ok-version_of.ensures.found c.in-Ok.ensures.asked

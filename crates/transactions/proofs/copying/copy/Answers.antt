@@ -1,4 +1,4 @@
-use Rattle.std.proofs.Common.{arith}
+use Rattle.std.proofs.Common.{refl, arith}
 use Rattle.transactions.specs.Making.{making_need}
 use Rattle.transactions.proofs.Updated.{room_left}
 use Rattle.transactions.proofs.LaterSessions.{has_room}
@@ -66,7 +66,7 @@ returns-in-Err-make-clause-line g c =
 
 pub returns-in-Err-make-clause-damage : goal.returns-in-Err-make-clause-damage
 returns-in-Err-make-clause-damage g c = λ honest. then_damage (reference_of c.args.x.now) c.admit.ensures.only (g.H.World.outside c.make.new.host) c.in-Err-make.stop
-    (admitted_with (λ (given : Original). oid_among c.args.session.now.names (reference_of c.args.x.now) ≡ Some given.oid) c.in-Ok-Ok.original c.in-Ok-Ok.field-0 c.in-Ok-Ok.field-0-is c.in-Ok-Ok.ensures.asked)
+    (admitted_with (λ (given : Original). oid_among c.args.session.now.names (reference_of c.args.x.now) ≡ Some given.oid) c.in-Ok-Ok.original c.in-Ok-Ok.field-0 c.in-Ok-Ok.field-0-is c.in-Ok-Ok.ensures.asked) refl
     (c.in-Err-make.ensures.damage (honest_on c.admit.ensures.only.reads.nothing.only.goes honest))
 
 pub make-requires-clause-unbound : goal.make-requires-clause-unbound

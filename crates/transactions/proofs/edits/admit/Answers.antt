@@ -10,8 +10,7 @@ use Rattle.session_core.specs.Needs.{size_after}
 use Rattle.transactions.proofs.EditRefusals.{admits, answers_room, later_fits, limit_at, need_then, refuses_missed, refuses_range, room_back, room_then, still_outside}
 use Rattle.session_core.proofs.Naming.{frames_twice}
 use Rattle.transactions.proofs.Naming.{misses_so, names_so}
-use Rattle.session_core.proofs.Damage.{none_wider}
-use Rattle.transactions.specs.Lines.{named_as}
+use Rattle.session_core.proofs.Damage.{none_for}
 use Rattle.transactions.proofs.Damage.{oid_named, then_damage}
 use Rattle.ex_base.proofs.Results.{if_err_handed}
 use Rattle.transactions.proofs.edits.admit.Goals as goal
@@ -65,11 +64,11 @@ returns-in-None-clause-admitted g c =
 
 pub returns-in_err-version-clause-damage : goal.returns-in_err-version-clause-damage
 returns-in_err-version-clause-damage g c = if_err_handed c.from_residual.result _ _ c.from_residual.ensures.1
-    (none_wider (g.H.World.outside c.args.host.now) (g.H.World.outside c.named.new.host) c.args.session.now (named_as c.args.session.now (reference_of c.args.x.now)) _ c.in_err-version.ensures.damage)
+    (none_for (g.H.World.outside c.args.host.now) (g.H.World.outside c.named.new.host) c.args.session.now _ _ c.in_err-version.ensures.damage)
 
 pub returns-in-Err-stays_small-clause-damage : goal.returns-in-Err-stays_small-clause-damage
 returns-in-Err-stays_small-clause-damage g c = then_damage (reference_of c.args.x.now) c.named.ensures.only (g.H.World.outside c.stays_small.new.disk) c.in-Err-stays_small.stop
-    (oid_named c.args.session.now (reference_of c.args.x.now) c.in-Ok.version _ c.in-Ok.is c.in_ok-version.ensures.asked)
+    (oid_named c.args.session.now (reference_of c.args.x.now) c.in-Ok.version _ c.in-Ok.is c.in_ok-version.ensures.asked) tt
     c.in-Err-stays_small.ensures.damage
 
 pub returns-in-None-clause-asked : goal.returns-in-None-clause-asked

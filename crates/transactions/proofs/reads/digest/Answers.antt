@@ -2,8 +2,7 @@ use Rattle.transactions.proofs.LaterSessions.{has_room}
 use Rattle.table_model.specs.Requests.{reference_of}
 use Rattle.transactions.proofs.Digests.{digest_line, digest_refused, digest_stopped}
 use Rattle.transactions.proofs.Naming.{misses_so, names_so}
-use Rattle.session_core.proofs.Damage.{none_wider}
-use Rattle.transactions.specs.Lines.{named_as}
+use Rattle.session_core.proofs.Damage.{none_for}
 use Rattle.transactions.proofs.Damage.{oid_named, then_damage}
 use Rattle.std.proofs.Common.{◌<◌, subst}
 use Rattle.versions.specs.Damage.{IsFoundAnd, IsReadThrough}
@@ -33,11 +32,11 @@ returns-clause-line g c =
     c.in-Err-digest_bytes.stop c.in-Err-digest_bytes.ensures.stops c.in-Err-digest_bytes.ensures.sound
 
 pub returns-in-Err-clause-damage : goal.returns-in-Err-clause-damage
-returns-in-Err-clause-damage g c = none_wider (g.H.World.outside c.args.host.now) (g.H.World.outside c.named.new.host) c.args.session.now (named_as c.args.session.now (reference_of c.args.x.now)) c.in-Err.stop c.in-Err.ensures.damage
+returns-in-Err-clause-damage g c = none_for (g.H.World.outside c.args.host.now) (g.H.World.outside c.named.new.host) c.args.session.now _ c.in-Err.stop c.in-Err.ensures.damage
 
 pub returns-clause-damage : goal.returns-clause-damage
 returns-clause-damage g c = then_damage (reference_of c.args.x.now) c.named.ensures.only (g.H.World.outside c.digest_bytes.new.disk) c.in-Err-digest_bytes.stop
-    (oid_named c.args.session.now (reference_of c.args.x.now) c.in-Ok-Ok.version c.in-Ok-Ok.field-0 c.in-Ok-Ok.field-0-is c.in-Ok-Ok.ensures.asked)
+    (oid_named c.args.session.now (reference_of c.args.x.now) c.in-Ok-Ok.version c.in-Ok-Ok.field-0 c.in-Ok-Ok.field-0-is c.in-Ok-Ok.ensures.asked) tt
     c.in-Err-digest_bytes.ensures.damage
 
 pub digest_bytes-requires-clause-room : goal.digest_bytes-requires-clause-room

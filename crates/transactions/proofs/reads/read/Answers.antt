@@ -6,12 +6,12 @@ use Rattle.table_model.specs.Requests.{reference_of}
 use Rattle.transactions.proofs.Naming.{misses_so, names_so, read_line, read_outside, read_refused, read_stopped, taken_back}
 use Rattle.transactions.proofs.reads.read.Goals as goal
 use Rattle.transactions.proofs.reads.read.Goals.{then-pos-size-via-then-pos-size, then-pos-size-via-else-pos-size+then-from-size}
-use Rattle.session_core.proofs.Damage.{none_wider}
-use Rattle.transactions.specs.Lines.{named_as}
+use Rattle.session_core.proofs.Damage.{none_for}
 use Rattle.versions.specs.Damage.{HasSoundWay, IsReadThrough}
 use Rattle.session_core.specs.Damage.{units_on}
 use Rattle.session_core.proofs.Ways.{later_way}
 use Rattle.transactions.proofs.Ways.{read_so}
+use Rattle.volume_edits.specs.Purposes.{ToReadSmall}
 use Rattle.transactions.proofs.Damage.{found_damage, oid_named, roots_at}
 
 pub returns-in-Ok-Err-clause-line : goal.returns-in-Ok-Err-clause-line
@@ -50,14 +50,15 @@ returns-in-Err-read_found-clause-line g c =
     c.in-Err-read_found.ensures.stops (λ before same now live is rooted room. c.in-Err-read_found.ensures.sound before same now live is rooted (omega (arith, room, long)))
 
 pub returns-in-Err-clause-damage : goal.returns-in-Err-clause-damage
-returns-in-Err-clause-damage g c = none_wider (g.H.World.outside c.args.host.now) (g.H.World.outside c.named.new.host) c.args.session.now (named_as c.args.session.now (reference_of c.args.x.now)) c.in-Err.stop c.in-Err.ensures.damage
+returns-in-Err-clause-damage g c = none_for (g.H.World.outside c.args.host.now) (g.H.World.outside c.named.new.host) c.args.session.now _ c.in-Err.stop c.in-Err.ensures.damage
 
 pub returns-in-Err-read_found-clause-damage : goal.returns-in-Err-read_found-clause-damage
 returns-in-Err-read_found-clause-damage g c =
     let s = c.args.session.now in
     let version = c.in-Ok-Ok.version in
+    let long : length c.deref_mut.result.now ≡ c.args.len = omega (arith, c.deref_mut.ensures.len, c.in-Ok.ensures.len, ap length c.deref_mut.ensures.value) in
     found_damage (reference_of c.args.x.now) c.named.ensures.only (g.H.World.outside c.read_found.new.disk) version.found.root c.in-Err-read_found.stop
-    (oid_named s (reference_of c.args.x.now) version c.in-Ok-Ok.field-0 c.in-Ok-Ok.field-0-is c.in-Ok-Ok.ensures.asked)
+    (oid_named s (reference_of c.args.x.now) version c.in-Ok-Ok.field-0 c.in-Ok-Ok.field-0-is c.in-Ok-Ok.ensures.asked) (ap (λ (n : ℕ). ToReadSmall (c.args.pos + n)) long)
     (roots_at s (g.H.World.outside c.args.host.now) version c.in-Ok-Ok.field-0 c.in-Ok-Ok.field-0-is c.in-Ok-Ok.ensures.rooted) c.in-Err-read_found.ensures.damage
 
 pub read_found-requires-clause-room : goal.read_found-requires-clause-room

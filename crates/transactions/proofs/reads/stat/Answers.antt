@@ -4,8 +4,8 @@ use Rattle.table_model.specs.Requests.{reference_of}
 use Rattle.session_views.specs.declared.stop.Stop.TheVariants as stop
 use Rattle.transactions.proofs.Naming.{misses_so, names_so}
 use Rattle.transactions.proofs.Shaping.{stat_large, stat_refused, stat_small, stat_stopped}
-use Rattle.session_core.proofs.Damage.{none_wider, shape_damage}
-use Rattle.transactions.specs.Lines.{named_as}
+use Rattle.session_core.proofs.Damage.{none_for, shape_damage}
+use Rattle.session_core.specs.Damage.{no_version}
 use Rattle.transactions.proofs.Damage.{oid_named, rooted_at}
 use Rattle.session_core.specs.Ways.{IsSoundTree}
 use Rattle.session_core.proofs.Ways.{later_way}
@@ -43,14 +43,15 @@ returns-in-Err-from_slice-clause-line g c =
     stop.Memory tt (λ before same now oid version there rooted. tt)
 
 pub returns-in-Err-clause-damage : goal.returns-in-Err-clause-damage
-returns-in-Err-clause-damage g c = none_wider (g.H.World.outside c.args.host.now) (g.H.World.outside c.named.new.host) c.args.session.now (named_as c.args.session.now (reference_of c.args.x.now)) c.in-Err.stop c.in-Err.ensures.damage
+returns-in-Err-clause-damage g c = none_for (g.H.World.outside c.args.host.now) (g.H.World.outside c.named.new.host) c.args.session.now _ c.in-Err.stop c.in-Err.ensures.damage
 
 pub returns-in-Err-shape-clause-damage : goal.returns-in-Err-shape-clause-damage
 returns-in-Err-shape-clause-damage g c =
     let x = reference_of c.args.x.now in
     let version = c.in-Ok-Ok.version in
-    shape_damage c.args.session.now c.named.new.self c.named.ensures.only (g.H.World.outside c.shape.new.disk) (named_as c.args.session.now x) c.in-Some.root version.oid c.in-Err-shape.stop
-    (rooted_at c.args.session.now (g.H.World.outside c.args.host.now) version c.in-Some.root c.in-Ok-Ok.field-0 c.in-Ok-Ok.field-0-is c.in-Ok-Ok.ensures.rooted c.in-Some.is) c.in-Err-shape.ensures.damage
+    none_for (g.H.World.outside c.args.host.now) (g.H.World.outside c.shape.new.disk) c.args.session.now _ c.in-Err-shape.stop
+    (shape_damage c.args.session.now c.named.new.self c.named.ensures.only (g.H.World.outside c.shape.new.disk) no_version c.in-Some.root version.oid c.in-Err-shape.stop
+    (rooted_at c.args.session.now (g.H.World.outside c.args.host.now) version c.in-Some.root c.in-Ok-Ok.field-0 c.in-Ok-Ok.field-0-is c.in-Ok-Ok.ensures.rooted c.in-Some.is) c.in-Err-shape.ensures.damage)
 
 pub shape-requires-clause-room : goal.shape-requires-clause-room
 shape-requires-clause-room g c = has_room c.named.ensures.only c.requires.room

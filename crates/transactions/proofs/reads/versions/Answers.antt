@@ -1,10 +1,9 @@
 use Rattle.transactions.proofs.LaterSessions.{has_room}
-use Rattle.std.proofs.Common.{◌∙◌}
+use Rattle.std.proofs.Common.{refl, ◌∙◌}
 use Rattle.table_model.specs.Requests.{reference_of}
 use Rattle.transactions.proofs.Naming.{misses_so, names_so}
 use Rattle.transactions.proofs.Relatives.{versions_line, versions_refused, versions_stopped}
-use Rattle.session_core.proofs.Damage.{none_wider}
-use Rattle.transactions.specs.Lines.{named_as}
+use Rattle.session_core.proofs.Damage.{none_for}
 use Rattle.transactions.proofs.Damage.{oid_named, then_damage}
 use Rattle.session_core.specs.Damage.{image_on}
 use Rattle.session_core.specs.Ways.{HasReadRelatives}
@@ -33,11 +32,11 @@ returns-in-Err-relatives-clause-line g c =
     c.in-Err-relatives.ensures.stops c.in-Err-relatives.ensures.sound
 
 pub returns-in-Err-clause-damage : goal.returns-in-Err-clause-damage
-returns-in-Err-clause-damage g c = none_wider (g.H.World.outside c.args.host.now) (g.H.World.outside c.named.new.host) c.args.session.now (named_as c.args.session.now (reference_of c.args.x.now)) c.in-Err.stop c.in-Err.ensures.damage
+returns-in-Err-clause-damage g c = none_for (g.H.World.outside c.args.host.now) (g.H.World.outside c.named.new.host) c.args.session.now _ c.in-Err.stop c.in-Err.ensures.damage
 
 pub returns-in-Err-relatives-clause-damage : goal.returns-in-Err-relatives-clause-damage
 returns-in-Err-relatives-clause-damage g c = then_damage (reference_of c.args.x.now) c.named.ensures.only (g.H.World.outside c.relatives.new.disk) c.in-Err-relatives.stop
-    (oid_named c.args.session.now (reference_of c.args.x.now) c.in-Ok-Ok.version c.in-Ok-Ok.field-0 c.in-Ok-Ok.field-0-is c.in-Ok-Ok.ensures.asked)
+    (oid_named c.args.session.now (reference_of c.args.x.now) c.in-Ok-Ok.version c.in-Ok-Ok.field-0 c.in-Ok-Ok.field-0-is c.in-Ok-Ok.ensures.asked) refl
     c.in-Err-relatives.ensures.damage
 
 pub relatives-requires : goal.relatives-requires

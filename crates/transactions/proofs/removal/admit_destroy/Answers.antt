@@ -7,8 +7,7 @@ use Rattle.table_model.specs.Requests.{reference_of}
 use Rattle.session_core.proofs.Naming.{frames_twice}
 use Rattle.transactions.proofs.Naming.{names_so}
 use Rattle.transactions.proofs.Removed.{destroy_admitted, destroy_alone, destroy_full, frozen_stays, still_asked}
-use Rattle.session_core.proofs.Damage.{none_wider}
-use Rattle.transactions.specs.Lines.{named_as}
+use Rattle.session_core.proofs.Damage.{none_for}
 use Rattle.transactions.proofs.Damage.{oid_named, then_damage}
 use Rattle.transactions.proofs.removal.admit_destroy.Goals as goal
 
@@ -60,11 +59,11 @@ returns-in-None-clause-admitted g c =
     destroy_admitted x c.named.ensures.only c.named.ensures.session c.requires.is_open version names c.is_only_one.ensures.only (sym c.is_frozen.ensures ∙ c.if-is_frozen.false) c.in-Ok-false.field-0 c.in-Ok-false.ensures.alone c.in-Ok-false.field-0-test c.in-None.ensures
 
 pub returns-in-Err-clause-damage : goal.returns-in-Err-clause-damage
-returns-in-Err-clause-damage g c = none_wider (g.H.World.outside c.args.host.now) (g.H.World.outside c.named.new.host) c.args.session.now (named_as c.args.session.now (reference_of c.args.x.now)) c.in-Err.stop c.in-Err.ensures.damage
+returns-in-Err-clause-damage g c = none_for (g.H.World.outside c.args.host.now) (g.H.World.outside c.named.new.host) c.args.session.now _ c.in-Err.stop c.in-Err.ensures.damage
 
 pub returns-in-Err-is_only_one-clause-damage : goal.returns-in-Err-is_only_one-clause-damage
 returns-in-Err-is_only_one-clause-damage g c = then_damage (reference_of c.args.x.now) c.named.ensures.only (g.H.World.outside c.is_only_one.new.host) c.in-Err-is_only_one.stop
-    (oid_named c.args.session.now (reference_of c.args.x.now) c.in-Ok-Ok.version c.in-Ok-Ok.field-0 c.in-Ok-Ok.field-0-is c.in-Ok-Ok.ensures.asked)
+    (oid_named c.args.session.now (reference_of c.args.x.now) c.in-Ok-Ok.version c.in-Ok-Ok.field-0 c.in-Ok-Ok.field-0-is c.in-Ok-Ok.ensures.asked) tt
     c.in-Err-is_only_one.ensures.damage
 
 pub returns-in-None-clause-asked : goal.returns-in-None-clause-asked

@@ -8,8 +8,7 @@ use Rattle.table_model.specs.Requests.{reference_of}
 use Rattle.session_core.proofs.Naming.{frames_twice}
 use Rattle.transactions.proofs.Naming.{names_so}
 use Rattle.transactions.proofs.Removed.{current_stays, drop_admitted, drop_branched, drop_full, still_asked}
-use Rattle.session_core.proofs.Damage.{none_wider}
-use Rattle.transactions.specs.Lines.{named_as}
+use Rattle.session_core.proofs.Damage.{none_for}
 use Rattle.transactions.proofs.Damage.{oid_named, then_damage}
 use Rattle.transactions.proofs.removal.admit_drop.Goals as goal
 
@@ -58,11 +57,11 @@ returns-clause-admitted g c =
     drop_admitted x c.named.ensures.only c.named.ensures.session c.requires.is_open version names c.branches.ensures.only (sym c.is_frozen.ensures ∙ c.if-not-is_frozen.false) c.in_default.ensures c.in-Ok.derived c.in-Ok.ensures.count (lt-leb 2 c.in-Ok.derived c.if-derived-ge2.false)
 
 pub returns-in-Err-clause-damage : goal.returns-in-Err-clause-damage
-returns-in-Err-clause-damage g c = none_wider (g.H.World.outside c.args.host.now) (g.H.World.outside c.named.new.host) c.args.session.now (named_as c.args.session.now (reference_of c.args.x.now)) c.in-Err.stop c.in-Err.ensures.damage
+returns-in-Err-clause-damage g c = none_for (g.H.World.outside c.args.host.now) (g.H.World.outside c.named.new.host) c.args.session.now _ c.in-Err.stop c.in-Err.ensures.damage
 
 pub returns-in-Err-branches-clause-damage : goal.returns-in-Err-branches-clause-damage
 returns-in-Err-branches-clause-damage g c = then_damage (reference_of c.args.x.now) c.named.ensures.only (g.H.World.outside c.branches.new.host) c.in-Err-branches.stop
-    (oid_named c.args.session.now (reference_of c.args.x.now) c.in-Ok-Ok.version c.in-Ok-Ok.field-0 c.in-Ok-Ok.field-0-is c.in-Ok-Ok.ensures.asked)
+    (oid_named c.args.session.now (reference_of c.args.x.now) c.in-Ok-Ok.version c.in-Ok-Ok.field-0 c.in-Ok-Ok.field-0-is c.in-Ok-Ok.ensures.asked) tt
     c.in-Err-branches.ensures.damage
 
 pub returns-clause-asked : goal.returns-clause-asked

@@ -55,7 +55,7 @@ returns-in-Err-update_objects-clause-line g c =
 
 pub returns-in-Err-update_objects-clause-damage : goal.returns-in-Err-update_objects-clause-damage
 returns-in-Err-update_objects-clause-damage g c = λ honest. then_damage (reference_of c.args.x.now) c.admit_drop.ensures.only (g.H.World.outside c.update_objects.new.host) c.in-Err-update_objects.stop
-    (admitted_with (λ oid. oid_among c.args.session.now.names (reference_of c.args.x.now) ≡ Some oid) c.in-Ok-Ok.oid c.in-Ok-Ok.field-0 c.in-Ok-Ok.field-0-is c.in-Ok-Ok.ensures.asked)
+    (admitted_with (λ oid. oid_among c.args.session.now.names (reference_of c.args.x.now) ≡ Some oid) c.in-Ok-Ok.oid c.in-Ok-Ok.field-0 c.in-Ok-Ok.field-0-is c.in-Ok-Ok.ensures.asked) tt
     (c.in-Err-update_objects.ensures.damage (honest_on c.admit_drop.ensures.only.reads.nothing.only.goes honest))
 
 pub update_objects-requires-clause-room : goal.update_objects-requires-clause-room

@@ -7,9 +7,9 @@ use Rattle.table_model.specs.Requests.{reference_of}
 use Rattle.table_model.specs.Requests as request
 use Rattle.table_model.specs.declared.reply.Reply.TheVariants as reply
 use Rattle.session_core.proofs.Naming.{later_stops}
-use Rattle.transactions.specs.Lines.{ScansLine, named_as}
+use Rattle.transactions.specs.Lines.{ScansLine}
 use Rattle.transactions.proofs.Opened.{may_few, may_group, opened_through, scan_done, scan_refused, scan_sound, scan_stopped}
-use Rattle.session_core.proofs.Damage.{none_wider}
+use Rattle.session_core.proofs.Damage.{none_for}
 use Rattle.transactions.proofs.Damage.{oid_named, then_damage}
 use Rattle.transactions.proofs.Ways.{read_so}
 use Rattle.transactions.proofs.scan_lines.scan.Goals as goal
@@ -45,11 +45,11 @@ returns-in-Err-open_scan-clause-line g c =
     (scan_sound x c.args.name.now group c.in-Ok.told c.named.ensures.only c.named.ensures.session c.in-Ok.ensures.named c.in-Ok-opening_of.opening.version c.in-Err-open_scan.stop c.in-Ok-opening_of.ensures.found c.in-Err-open_scan.ensures.sound)
 
 pub returns-in-Err-clause-damage : goal.returns-in-Err-clause-damage
-returns-in-Err-clause-damage g c = none_wider (g.H.World.outside c.args.host.now) (g.H.World.outside c.named.new.host) c.args.session.now (named_as c.args.session.now (reference_of c.args.x.now)) c.in-Err.stop c.in-Err.ensures.damage
+returns-in-Err-clause-damage g c = none_for (g.H.World.outside c.args.host.now) (g.H.World.outside c.named.new.host) c.args.session.now _ c.in-Err.stop c.in-Err.ensures.damage
 
 pub returns-in-Err-open_scan-clause-damage : goal.returns-in-Err-open_scan-clause-damage
 returns-in-Err-open_scan-clause-damage g c = then_damage (reference_of c.args.x.now) c.named.ensures.only (g.H.World.outside c.open_scan.new.host) c.in-Err-open_scan.stop
-    (oid_named c.args.session.now (reference_of c.args.x.now) c.in-Ok-opening_of.opening.version c.in-Ok.told c.in-Ok-opening_of.ensures.found c.in-Ok.ensures.asked)
+    (oid_named c.args.session.now (reference_of c.args.x.now) c.in-Ok-opening_of.opening.version c.in-Ok.told c.in-Ok-opening_of.ensures.found c.in-Ok.ensures.asked) tt
     c.in-Err-open_scan.ensures.damage
 
 pub open_scan-requires-clause-room : goal.open_scan-requires-clause-room

@@ -3,6 +3,7 @@ use Rattle.session_core.specs.Sessions.{SessionState}
 use Rattle.transactions.proofs.StoppedSteps.{stopped, not_stopped, of_any_fault}
 use Rattle.session_core.proofs.Quiet.{nothing_changed}
 use Rattle.versions.proofs.Results.{ok_of}
+use Rattle.volume_edits.specs.Purposes.{anyhow}
 use Rattle.session_core.specs.Damage.{no_version}
 use Rattle.transactions.proofs.Damage.{damage_at}
 use Rattle.transactions.proofs.Summing.{sums_soundly}
@@ -15,10 +16,10 @@ pub returns-else-is_err-clause-shows : goal.returns-else-is_err-clause-shows
 returns-else-is_err-clause-shows g c = λ before same now. ok_of c.sum_up-summary.result _ (c.sum_up-summary.ensures.shows before same now)
 
 pub returns-then-is_err-clause-stands : goal.returns-then-is_err-clause-stands
-returns-then-is_err-clause-stands g c = λ page want got is. damage_at (g.H.World.outside c.args.host.now) (g.H.World.outside c.sum_up-summary.new.host) c.args.session.now no_version c.sum_up-summary.result page want got c.sum_up-summary.ensures.damage is
+returns-then-is_err-clause-stands g c = λ page want got is. damage_at (g.H.World.outside c.args.host.now) (g.H.World.outside c.sum_up-summary.new.host) c.args.session.now (anyhow no_version) c.sum_up-summary.result page want got c.sum_up-summary.ensures.damage is
 
 pub returns-else-is_err-clause-stands : goal.returns-else-is_err-clause-stands
-returns-else-is_err-clause-stands g c = λ page want got is. damage_at (g.H.World.outside c.args.host.now) (g.H.World.outside c.sum_up-summary.new.host) c.args.session.now no_version c.sum_up-summary.result page want got c.sum_up-summary.ensures.damage is
+returns-else-is_err-clause-stands g c = λ page want got is. damage_at (g.H.World.outside c.args.host.now) (g.H.World.outside c.sum_up-summary.new.host) c.args.session.now (anyhow no_version) c.sum_up-summary.result page want got c.sum_up-summary.ensures.damage is
 
 pub returns-then-is_down-clause-frames : goal.returns-then-is_down-clause-frames
 returns-then-is_down-clause-frames g c = nothing_changed _ _
